@@ -1,0 +1,4 @@
+pub mod Spelled
+pub mod Encoded
+pub mod Facted
+pub mod Together

@@ -1,0 +1,5 @@
+use Rattle.book.proofs.Encoded.{faithful}
+use Rattle.book.proofs.lists.RuleLists.check.Needs as need
+
+pub returns : need.returns
+returns c = record { verdict = c .verdict .ensures; faithful = faithful (c .args .self .now) }

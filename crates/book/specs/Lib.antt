@@ -1,0 +1,11 @@
+pub mod Rules
+pub mod Encoding
+pub mod Numbers
+pub mod NumbersLawful
+pub mod NumbersLaw
+pub mod Facts
+pub mod FactsLawful
+pub mod FactsLaw
+pub mod Joined
+pub mod JoinedLawful
+pub mod Faults
