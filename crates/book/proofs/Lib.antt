@@ -2,3 +2,4 @@ pub mod Spelled
 pub mod Encoded
 pub mod Facted
 pub mod Together
+pub mod Bounds

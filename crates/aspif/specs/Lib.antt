@@ -1,0 +1,4 @@
+pub mod Faults
+pub mod Texts
+pub mod Integers
+pub mod Write
