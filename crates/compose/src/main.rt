@@ -16,10 +16,31 @@ const NAME_STARTS: [u32; 4] = [0, 10, 18, 23];
 const NAME_LENGTHS: [u32; 4] = [9, 7, 4, 5];
 
 const RULES: [i32; 25] = [
-    0, 1, 2, 0, 2, 1, -3, // delivered goods are released unless held
-    0, 1, 3, 0, 1, -2, // held unless released
-    1, 1, 4, 0, 1, 1, // what was delivered may be queried
-    0, 0, 0, 2, 2, 4, // never both released and queried
+    0,
+    1,
+    2,
+    0,
+    2,
+    1,
+    -3, // delivered goods are released unless held
+    0,
+    1,
+    3,
+    0,
+    1,
+    -2, // held unless released
+    1,
+    1,
+    4,
+    0,
+    1,
+    1, // what was delivered may be queried
+    0,
+    0,
+    0,
+    2,
+    2,
+    4, // never both released and queried
 ];
 
 const STARTS: [u32; 4] = [0, 7, 13, 19];
