@@ -1,3 +1,4 @@
 pub mod Puts
 pub mod Search
 pub mod Places
+pub mod Verdicts

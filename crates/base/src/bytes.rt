@@ -67,10 +67,10 @@ pub fn put_bytes(out: &mut [u8], at: usize, bytes: &[u8]) -> Result<usize, TooSh
     ensures result { λ r. ⌜ r ≡ putAnswer (length (now (out .entry))) at (now (bytes .entry)) ⌝ }
     ensures list { λ _. ⌜ now (out .exit) ≡ putInto (now (out .entry)) at (now (bytes .entry)) ⌝ }
 {
-    let size = bytes.len();
-    if at > out.len() || out.len() - at < size {
+    let count = bytes.len();
+    if at > out.len() || out.len() - at < count {
         return Err(TooShort);
     }
-    out[at..at + size].copy_from_slice(bytes);
-    Ok(size)
+    out[at..at + count].copy_from_slice(bytes);
+    Ok(count)
 }

@@ -1,15 +1,14 @@
 -- What a book that keeps the limits can answer.
-use mathlib.Core.Path.{_≡_, refl, subst}
+use mathlib.Core.Path.{_≡_, subst}
 use mathlib.Core.List.{List, [], _∷_}
 use Prim.Native.Nat.{ℕ, zero, suc, _≤_}
 use native.Mathlib.Omega.{arith}
-use lib.IntN.{ℤ}
 use lib.ListN.{length}
 use Rattle.std.specs.shelf.Lists.{All}
 use Rattle.std.specs.shelf.Maps.{nth}
 use Rattle.std.specs.declared.option.Option.{Option}
 use Rattle.std.specs.declared.option.Option.the-variants.{Some, None}
-use Rattle.book.specs.Rules.{Rule, Rules, Lawful, LawfulRule, Atom, Literal, headLimit, ruleAt, headSize, bodySize, headAtom, bodyLiteral}
+use Rattle.book.specs.Rules.{Rule, Rules, Lawful, LawfulRule, Atom, headLimit, ruleAt, headSize, bodySize, headAtom}
 use Rattle.book.specs.declared.kind.Kind.{Kind}
 use Rattle.book.specs.declared.kind.Kind.the-variants.{Plain, Choice}
 

@@ -1,26 +1,24 @@
 -- A list of facts is accepted exactly where its facts keep the limits, and then makes the book of those facts.
-use mathlib.Core.Path.{_≡_, refl, sym, ap, _∙_, subst}
-use mathlib.Core.Bool.{Bool, true, false, cond, not, _&&_}
+use mathlib.Core.Path.{_≡_, refl, ap, _∙_, subst}
+use mathlib.Core.Bool.{true, not}
 use mathlib.Core.List.{List, [], _∷_, map}
 use Prim.Native.Nat.{ℕ, zero, suc, _≤_, _<_}
 use native.Mathlib.Omega.{arith}
-use lib.Dec.{leb, ltb}
+use lib.Dec.{ltb}
 use lib.ListN.{length, getD, length-map}
 use Rattle.std.specs.Results.{isOk}
 use Rattle.std.specs.shelf.Maps.{nth}
 use Rattle.std.specs.shelf.Lists.{All}
 use Rattle.std.specs.declared.option.Option.the-variants.{None}
-use Rattle.std.specs.declared.result.Result.{Result}
-use Rattle.std.specs.declared.result.Result.the-variants.{Ok, Err}
+use Rattle.std.specs.declared.result.Result.the-variants.{Ok}
 use Rattle.std.proofs.shelf.Elements.{all-getD}
 use Rattle.std.proofs.shelf.Tests.{and-from, cond-both, cond-true, cond-false, le-leb, le-ltb, lt-ltb}
 use Rattle.base.proofs.Search.{none-found}
-use Rattle.book.specs.Rules.{Rules, noRules, Atom, LawfulRule, Lawful, bodyLiteral}
-use Rattle.book.specs.Facts.{factRule, factRules, soundFact, firstFaultyFact, afterFacts, factsVerdict, factsBook}
+use Rattle.book.specs.Rules.{noRules, Atom, LawfulRule, Lawful, bodyLiteral}
+use Rattle.book.specs.Facts.{factRule, factRules, soundFact, afterFacts, factsVerdict, factsBook}
 use Rattle.book.specs.FactsLaw.{FactsFaithful}
 use Rattle.book.specs.FactsLawful.{accepted-facts}
 use Rattle.book.specs.JoinedLawful.{no-rules-lawful}
-use Rattle.book.specs.declared.error.BookError.{BookError}
 
 pub no-literal : (facts : List ℕ) (rule at : ℕ) → None ≡ bodyLiteral (nth (map factRule facts) rule) at
 no-literal [] rule at = refl

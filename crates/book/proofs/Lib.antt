@@ -1,5 +1,3 @@
-pub mod Spelled
-pub mod Encoded
 pub mod Facted
 pub mod Together
 pub mod Bounds

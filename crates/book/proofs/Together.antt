@@ -1,8 +1,7 @@
 -- Where the rules of two joined books stand.
 use mathlib.Core.Path.{_≡_, sym}
 use mathlib.Core.Bool.{true}
-use Prim.Native.Nat.{ℕ, _+_, _-_, _≤_, _<_}
-use native.Mathlib.Omega.{arith}
+use Prim.Native.Nat.{ℕ, _+_, _-_, _<_}
 use lib.ListN.{length, length-append}
 use Rattle.base.proofs.Places.{nth-append-left, nth-append-right}
 use Rattle.book.specs.Rules.{Rules, ruleAt}

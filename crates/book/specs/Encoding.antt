@@ -1,11 +1,9 @@
 -- Rules as integers: those of a rule's line in a program text, without the 1 that it begins with.
-use mathlib.Core.Path.{_≡_}
-use mathlib.Core.Bool.{true}
 use mathlib.Core.List.{List, [], _∷_, _++_, map}
 use Prim.Native.Nat.{ℕ, _+_}
 use lib.IntN.{ℤ, pos}
 use lib.ListN.{length}
-use Rattle.book.specs.Rules.{Rule, Rules}
+use Rattle.book.specs.Rules.{Rule}
 use Rattle.book.specs.declared.kind.Kind.{Kind}
 use Rattle.book.specs.declared.kind.Kind.the-variants.{Plain, Choice}
 

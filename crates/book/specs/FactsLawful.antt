@@ -1,7 +1,7 @@
 -- Facts that are accepted keep the limits: what the fact book owes as a book.
 use mathlib.Core.Path.{_≡_, refl}
-use mathlib.Core.Bool.{Bool, true, false, cond, not, _&&_}
-use mathlib.Core.List.{List, map}
+use mathlib.Core.Bool.{true, not, _&&_}
+use mathlib.Core.List.{List}
 use mathlib.Core.Logic.{inl, inr}
 use Prim.Native.Nat.{ℕ, _≤_, _<_}
 use native.Mathlib.Omega.{arith}
@@ -15,7 +15,7 @@ use Rattle.std.proofs.shelf.Tests.{and-parts, leb-true, ltb-true, ltb-false, no
 use Rattle.base.proofs.Search.{none-passes}
 use Rattle.book.specs.Rules.{Atom, LawfulRule, Lawful}
 use Rattle.book.specs.Facts.{factRule, factRules, soundFact, firstFaultyFact, afterFacts, factsVerdict}
-use Rattle.book.specs.NumbersLawful.{ok-unless}
+use Rattle.base.proofs.Verdicts.{ok-unless}
 use Rattle.book.specs.declared.error.BookError.the-variants.{TooManyAtoms}
 
 none-after : (o : Option ℕ) → isOk (afterFacts o) ≡ true → o ≡ None

@@ -1,8 +1,5 @@
 pub mod Rules
 pub mod Encoding
-pub mod Numbers
-pub mod NumbersLawful
-pub mod NumbersLaw
 pub mod Facts
 pub mod FactsLawful
 pub mod FactsLaw

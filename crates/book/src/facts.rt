@@ -14,7 +14,7 @@ use crate::book::Book;
 use crate::book::NamedBook;
 use crate::error::BookError;
 use crate::kind::Kind;
-use crate::parts::item;
+use base::parts::item;
 
 fn is_sound_fact(atoms: u32, facts: &[u32], i: usize) -> bool
     requires { ⌜ i < length (now facts) ⌝ }

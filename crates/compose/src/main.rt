@@ -1,6 +1,6 @@
 // Prints the program text of one invoice: its standing rules, and what was delivered today.
-use book::lists::Names;
-use book::lists::RuleLists;
+use numbers::lists::Names;
+use numbers::lists::RuleLists;
 use report::composing::compose;
 use report::fault::Fault;
 use report::telling::tell;

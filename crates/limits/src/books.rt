@@ -8,8 +8,8 @@ use book::facts::FactBookBook;
 use book::facts::check_facts;
 use book::joined::JoinedBook;
 use book::joined::JoinedBookBook;
-use book::numbers::NumbersBook;
-use book::numbers::NumbersBookBook;
+use numbers::numbers::NumbersBook;
+use numbers::numbers::NumbersBookBook;
 use std::alloc::Global;
 use std::test::*;
 

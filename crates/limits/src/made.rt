@@ -1,6 +1,6 @@
 // Lists of numbers for the tests.
-use book::lists::Names;
-use book::lists::RuleLists;
+use numbers::lists::Names;
+use numbers::lists::RuleLists;
 use std::alloc::AllocError;
 use std::alloc::Global;
 

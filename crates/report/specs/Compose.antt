@@ -7,11 +7,11 @@ use Rattle.std.specs.Results.{isOk}
 use Rattle.std.specs.declared.result.Result.{Result}
 use Rattle.std.specs.declared.result.Result.the-variants.{Ok, Err}
 use Rattle.book.specs.Rules.{Rules}
-use Rattle.book.specs.Numbers.{numbersVerdict, numbersBook}
+use Rattle.numbers.specs.Numbers.{numbersVerdict, numbersBook}
 use Rattle.book.specs.Facts.{factsVerdict, factsBook}
 use Rattle.book.specs.Joined.{joined}
 use Rattle.book.specs.declared.error.BookError.{BookError}
-use Rattle.book.specs.declared.lists.RuleLists.{RuleLists}
+use Rattle.numbers.specs.declared.lists.RuleLists.{RuleLists}
 use Rattle.aspif.specs.Texts.{textOf}
 use Rattle.aspif.specs.Write.{writeAnswer}
 use Rattle.aspif.specs.declared.error.TextError.{TextError}

@@ -11,9 +11,9 @@ use book::facts::FactBookBook;
 use book::facts::check_facts;
 use book::joined::JoinedBook;
 use book::joined::JoinedBookBook;
-use book::lists::RuleLists;
-use book::numbers::NumbersBook;
-use book::numbers::NumbersBookBook;
+use numbers::lists::RuleLists;
+use numbers::numbers::NumbersBook;
+use numbers::numbers::NumbersBookBook;
 
 // Checks both lists, joins the books made of them and writes the text; answers how many bytes it has.
 pub fn compose(rules: RuleLists<'_>, facts: &[u32], out: &mut [u8]) -> Result<usize, Fault>

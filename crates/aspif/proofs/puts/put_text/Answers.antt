@@ -1,6 +1,5 @@
 use native.Mathlib.Omega.{arith}
 use lib.ListN.{length-append}
-use lib.Seq.{length-sets}
 use Rattle.base.proofs.Puts.{sets-append}
 use Rattle.aspif.proofs.puts.put_text.Needs as need
 

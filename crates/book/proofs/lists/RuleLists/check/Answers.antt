@@ -1,5 +1,0 @@
-use Rattle.book.proofs.Encoded.{faithful}
-use Rattle.book.proofs.lists.RuleLists.check.Needs as need
-
-pub returns : need.returns
-returns c = record { verdict = c .verdict .ensures; faithful = faithful (c .args .self .now) }
