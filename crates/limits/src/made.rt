@@ -14,7 +14,7 @@ pub struct Lists {
 
 impl Lists {
     // No rules over so many atoms, without names.
-    pub fn new(heap: Global, atoms: u32) -> Result<Lists, AllocError> {
+    pub(crate) fn new(heap: Global, atoms: u32) -> Result<Lists, AllocError> {
         Ok(Lists {
             atoms,
             integers: Vec::new(heap),
@@ -23,7 +23,7 @@ impl Lists {
         })
     }
 
-    pub fn lent(&self) -> RuleLists<'_> {
+    pub(crate) fn lent(&self) -> RuleLists<'_> {
         let names = Names {
             text: &[],
             starts: &self.zeros,
@@ -38,7 +38,12 @@ impl Lists {
     }
 
     // One more rule, with so many times the same head atom and no body yet.
-    pub fn begin(&mut self, head_type: i32, heads: u16, literals: u16) -> Result<(), AllocError> {
+    pub(crate) fn begin(
+        &mut self,
+        head_type: i32,
+        heads: u16,
+        literals: u16,
+    ) -> Result<(), AllocError> {
         self.starts
             .push(u32::try_from(self.integers.len()).unwrap_or(u32::MAX))?;
         self.integers.push(head_type)?;
@@ -49,7 +54,7 @@ impl Lists {
         Ok(())
     }
 
-    pub fn repeat(&mut self, integer: i32, times: u16) -> Result<(), AllocError> {
+    pub(crate) fn repeat(&mut self, integer: i32, times: u16) -> Result<(), AllocError> {
         for _ in 0..times {
             self.integers.push(integer)?;
         }
@@ -57,7 +62,7 @@ impl Lists {
     }
 
     // So many constraints more, each with so many times the same literal.
-    pub fn constraints(
+    pub(crate) fn constraints(
         &mut self,
         rules: u16,
         literals: u16,
