@@ -15,6 +15,14 @@ pub sets-append : {X : Type 0} (l : List X) (i : ℕ) (vs ws : List X) → sets 
 sets-append l i [] ws = rw add-zero
 sets-append l i (v ∷ vs) ws = sets-append (set l i v) _ vs ws ∙ rw (suc-add, ← add-suc)
 
+-- four pieces, each after the one before
+pub sets-four : {X : Type 0} (l l1 l2 l3 l4 ps bs cs ds : List X) (i j k m : ℕ) → j ≡ i + length ps → k ≡ j + length bs → m ≡ k + length cs → l1 ≡ sets l i ps → l2 ≡ sets l1 j bs → l3 ≡ sets l2 k cs → l4 ≡ sets l3 m ds → l4 ≡ sets l i (ps ++ (bs ++ (cs ++ ds)))
+sets-four l l1 l2 l3 l4 ps bs cs ds i j k m e f g p q r t =
+    let a = sets-append l i ps (bs ++ (cs ++ ds)) in
+    let b = sets-append (sets l i ps) (i + length ps) bs (cs ++ ds) in
+    let c = sets-append (sets (sets l i ps) (i + length ps) bs) (i + length ps + length bs) cs ds in
+    cc
+
 -- from the front: what was put, and then what stood there before
 pub sets-front : {X : Type 0} (l vs : List X) → length vs ≤ length l → sets l 0 vs ≡ vs ++ drop (length vs) l
 sets-front l vs h = sets-eq vs l 0 (omega arith) ∙ rw zero-add

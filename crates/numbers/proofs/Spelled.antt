@@ -41,7 +41,8 @@ zero-back : (z : ℤ) → within 0 0 z ≡ true → pos 0 ≡ z
 zero-back (pos n) h = let l = leb-true n 0 (and-parts (leb 0 n) (leb n 0) h .1) in let e : 0 ≡ n = omega arith in ap pos e
 zero-back (negsuc n) h = let z : _≡_ {A = ℕ} 0 1 = cc in absurd (omega arith)
 
-heads-back : (n : ℕ) (zs : List ℤ) → every (within 1 n) zs ≡ true → map pos (map natAbs zs) ≡ zs
+-- integers that are atoms, as atoms and back
+pub heads-back : (n : ℕ) (zs : List ℤ) → every (within 1 n) zs ≡ true → map pos (map natAbs zs) ≡ zs
 heads-back n [] h = refl
 heads-back n (pos k ∷ zs) h = ap (λ t. pos k ∷ t) (heads-back n zs (and-parts (within 1 n (pos k)) (every (within 1 n) zs) h .1))
 heads-back n (negsuc k ∷ zs) h = let z : _≡_ {A = ℕ} 0 1 = cc in absurd (omega arith)

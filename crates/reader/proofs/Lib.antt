@@ -1,0 +1,9 @@
+pub mod Numerals
+pub mod Scans
+pub mod Steps
+pub mod Shifts
+pub mod Tallies
+pub mod Turns
+pub mod Moves
+pub mod Cases
+pub mod Filling

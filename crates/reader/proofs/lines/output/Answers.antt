@@ -1,0 +1,25 @@
+use borrow.Author.Needs.{needs}
+use native.Mathlib.Omega.{arith}
+use mathlib.Core.Path.{sym, _∙_}
+use Rattle.reader.specs.Lines.{outputAt}
+use Rattle.reader.specs.declared.pieces.Items.the-variants.{Literals}
+use Rattle.reader.proofs.lines.output.Needs as need
+
+pub returns-in-Break-size : need.returns-in-Break-size
+unfolding outputAt
+returns-in-Break-size c = search needs
+
+pub returns-in-Break-next : need.returns-in-Break-next
+unfolding outputAt
+returns-in-Break-next c = search needs
+
+pub returns-in-Break-span : need.returns-in-Break-span
+unfolding outputAt
+returns-in-Break-span c = search needs
+
+pub returns : need.returns
+unfolding outputAt
+returns c = record {
+  line = simp (c .numbers .ensures .values Literals, c .part .ensures .part, sym (c .in-Continue-size .ensures tt .counted), sym (c .in-Continue-next .ensures tt .name), sym (c .in-Continue-span .ensures tt .span));
+  sound = (c .in-Continue-span .ensures tt .within, record { reads = c .numbers .ensures .reads Literals ∙ c .in-Continue-span .ensures tt .reads; short = omega (arith, c .numbers .ensures .short) });
+}
