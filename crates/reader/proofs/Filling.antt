@@ -28,11 +28,11 @@ pub said-none : (n i : ℕ) (text : List ℕ) (at : ℕ) → n ≤ i → saidFro
 unfolding saidFrom
 said-none n i text at h = let e : n - i ≡ 0 = omega arith in ap (λ k. saidFrom k text at) e
 
-ok-rest : (s : Stmt) (r : Result (List Stmt) TextError) → isOk (before s r) ≡ true → isOk r ≡ true
+pub ok-rest : (s : Stmt) (r : Result (List Stmt) TextError) → isOk (before s r) ≡ true → isOk r ≡ true
 ok-rest s (Ok ss) h = refl
 ok-rest s (Err e) h = h
 
-parts-rest : (p : Part) (s : Stmt) (r : Result (List Stmt) TextError) → isOk (before s r) ≡ true → partsIn p (listed (before s r)) ≡ partIn p s ++ partsIn p (listed r)
+pub parts-rest : (p : Part) (s : Stmt) (r : Result (List Stmt) TextError) → isOk (before s r) ≡ true → partsIn p (listed (before s r)) ≡ partIn p s ++ partsIn p (listed r)
 unfolding partsIn
 parts-rest p s (Ok ss) h = refl
 parts-rest p s (Err e) h = let y : _≡_ {A = ℕ} 0 1 = cc in absurd (omega arith)

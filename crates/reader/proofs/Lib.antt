@@ -7,3 +7,7 @@ pub mod Turns
 pub mod Moves
 pub mod Cases
 pub mod Filling
+pub mod Starting
+pub mod Naming
+pub mod Headings
+pub mod Wholes

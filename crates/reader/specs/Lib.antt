@@ -5,3 +5,4 @@ pub mod Lines
 pub mod Seen
 pub mod Scan
 pub mod Fill
+pub mod Read

@@ -52,7 +52,7 @@ pub record Readable (i : Items) (ns : Numbers) : Type 0 where
 
 abbrev pub Sound : Statement → Type 0
 Sound (st.Rule kind heads body) = Readable items.Heads heads × Readable items.Literals body
-Sound (st.Output at name literals) = Readable items.Literals literals
+Sound (st.Output at name literals) = (at ≤ 65536) × (length (name .now) ≤ 65536) × Readable items.Literals literals
 Sound (st.Assumption literals) = Readable items.Literals literals
 Sound (st.Skipped kind rest) = Unit {0}
 

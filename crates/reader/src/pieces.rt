@@ -87,3 +87,20 @@ pub struct Turn {
     pub to: usize,
     pub ended: bool,
 }
+
+// After a line: where the text goes on, where the list of starts goes on, where the next rule starts, and whether the
+// text has ended.
+#[derive(Clone, Copy)]
+pub struct Begun {
+    pub at: usize,
+    pub to: usize,
+    pub start: usize,
+    pub ended: bool,
+}
+
+// After a line: where the text goes on, and whether it has ended.
+#[derive(Clone, Copy)]
+pub struct Named {
+    pub at: usize,
+    pub ended: bool,
+}

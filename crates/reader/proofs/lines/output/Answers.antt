@@ -1,6 +1,7 @@
 use borrow.Author.Needs.{needs}
 use native.Mathlib.Omega.{arith}
-use mathlib.Core.Path.{sym, _∙_}
+use mathlib.Core.Path.{sym, ap, _∙_}
+use lib.ListN.{length, drop, length-take, length-drop}
 use Rattle.reader.specs.Lines.{outputAt}
 use Rattle.reader.specs.declared.pieces.Items.the-variants.{Literals}
 use Rattle.reader.proofs.lines.output.Needs as need
@@ -21,5 +22,14 @@ pub returns : need.returns
 unfolding outputAt
 returns c = record {
   line = simp (c .numbers .ensures .values Literals, c .part .ensures .part, sym (c .in-Continue-size .ensures tt .counted), sym (c .in-Continue-next .ensures tt .name), sym (c .in-Continue-span .ensures tt .span));
-  sound = (c .in-Continue-span .ensures tt .within, record { reads = c .numbers .ensures .reads Literals ∙ c .in-Continue-span .ensures tt .reads; short = omega (arith, c .numbers .ensures .short) });
+  sound =
+      let name = ap length (c .part .ensures .part) ∙ length-take (c .in-Continue-size .size .count) (drop (c .in-Continue-size .size .next) (c .args .text .now)) in
+      let rest = length-drop (c .in-Continue-size .size .next) (c .args .text .now) in (
+        c .in-Continue-span .ensures tt .within,
+        (
+          omega (arith, c .in-Continue-size .ensures tt .within),
+          omega (arith, name, rest),
+          record { reads = c .numbers .ensures .reads Literals ∙ c .in-Continue-span .ensures tt .reads; short = omega (arith, c .numbers .ensures .short) },
+        ),
+      );
 }
