@@ -11,3 +11,4 @@ pub mod Starting
 pub mod Naming
 pub mod Headings
 pub mod Wholes
+pub mod Surveyed

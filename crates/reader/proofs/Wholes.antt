@@ -26,7 +26,7 @@ pub record Whole (C : Counts) (ss : List Stmt) (plain : Result (List Stmt) TextE
   pub plainly : plain ≡ Ok ss
   pub kept : keeps (withAll C ss) ≡ true
 
-never : {X : Type 0} {x : X} {e : TextError} {P : Type 0} → _≡_ {A = Result X TextError} (Err e) (Ok x) → P
+pub never : {X : Type 0} {x : X} {e : TextError} {P : Type 0} → _≡_ {A = Result X TextError} (Err e) (Ok x) → P
 never h = let z : _≡_ {A = ℕ} 0 1 = cc in absurd (omega arith)
 
 module _ (next : Counts → ℕ → Result (List Stmt) TextError) (plain : ℕ → Result (List Stmt) TextError) (go : (D : Counts) (b : ℕ) (ss : List Stmt) → keeps D ≡ true → next D b ≡ Ok ss → Whole D ss (plain b)) where

@@ -6,7 +6,7 @@ pub mod line;
 mod lines;
 mod names;
 pub mod pieces;
-mod reading;
+pub mod reading;
 mod rows;
 mod starts;
 pub mod statement;
