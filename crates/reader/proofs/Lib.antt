@@ -12,3 +12,4 @@ pub mod Naming
 pub mod Headings
 pub mod Wholes
 pub mod Surveyed
+pub mod Forward

@@ -24,7 +24,7 @@ use Rattle.reader.specs.declared.pieces.Items.{Items}
 abbrev Moves : ℕ → ℕ → Result Field TextError → Type 0
 Moves at end r = made r (λ f. (at < f .next) × (f .next ≤ end))
 
-start-after : (at : ℕ) (m : Bool) → at ≤ cond m (at + 1) at
+pub start-after : (at : ℕ) (m : Bool) → at ≤ cond m (at + 1) at
 start-after at true = omega arith
 start-after at false = omega arith
 

@@ -1,7 +1,8 @@
 -- What reading a text answers, and what it leaves in the caller's lists.
+use mathlib.Core.Path.{_≡_}
 use mathlib.Core.Bool.{Bool, true, false, cond, _&&_}
 use mathlib.Core.List.{List, [], _∷_}
-use Prim.Native.Nat.{ℕ}
+use Prim.Native.Nat.{ℕ, _≤_}
 use lib.Dec.{ltb, leb, eqb}
 use lib.IntN.{ℤ}
 use lib.ListN.{length, replicate}
@@ -65,3 +66,7 @@ readAnswer text room = andThen (countsOf nothing (statementsOf text)) (roomTeste
 abbrev pub afterRead : {X : Type 0} → Result Counts TextError → X → X → X
 afterRead (Ok C) new old = new
 afterRead (Err e) new old = old
+
+-- The scan never runs out of lines: with more of them to spare, a text has the same verdict.
+abbrev pub EveryTextHasItsVerdict : List ℕ → Type 0
+EveryTextHasItsVerdict text = (lines : ℕ) → length text ≤ lines → statementsFrom lines nothing text 10 ≡ statementsFrom (length text) nothing text 10

@@ -6,7 +6,7 @@ ghost use lib.ListN.{length, replicate};
 ghost use lib.Seq.{sets};
 ghost use Rattle.std.specs.declared.result.Result.the-variants.{Ok};
 ghost use Rattle.reader.specs.Fill.{listed};
-ghost use Rattle.reader.specs.Read.{begins, statementsOf, hasRoom, readAnswer, afterRead, integersAfter, startsAfter, namesAfter, assumedAfter};
+ghost use Rattle.reader.specs.Read.{begins, statementsOf, hasRoom, readAnswer, afterRead, EveryTextHasItsVerdict, integersAfter, startsAfter, namesAfter, assumedAfter};
 ghost use Rattle.reader.specs.Scan.{nothing, countsOf};
 ghost use Rattle.aspif.specs.Texts.{heading};
 use crate::fills::fill;
@@ -110,6 +110,7 @@ pub fn read(
     ensures places { λ r. ⌜ now (places .exit) ≡ afterRead r (namesAfter (listed (statementsOf (now (text .entry)))) (now (places .entry)) (now (lengths .entry)) .starts) (now (places .entry)) ⌝ }
     ensures lengths { λ r. ⌜ now (lengths .exit) ≡ afterRead r (namesAfter (listed (statementsOf (now (text .entry)))) (now (places .entry)) (now (lengths .entry)) .lengths) (now (lengths .entry)) ⌝ }
     ensures assumed { λ r. ⌜ now (assumed .exit) ≡ afterRead r (assumedAfter (listed (statementsOf (now (text .entry)))) (now (assumed .entry))) (now (assumed .entry)) ⌝ }
+    ensures verdict { λ _. ⌜ EveryTextHasItsVerdict (now (text .entry)) ⌝ }
 {
     let counts = counts_of(text)?;
     if !has_room(
