@@ -10,6 +10,7 @@ use lib.ListN.{length, getD}
 use Rattle.std.specs.Vec.{made}
 use Rattle.std.specs.declared.result.Result.{Result}
 use Rattle.std.specs.declared.result.Result.the-variants.{Ok, Err}
+use Rattle.std.proofs.shelf.Results.{made-weaker}
 use Rattle.std.proofs.shelf.Tests.{cond-both, cond-false, le-ltb}
 use Rattle.aspif.specs.declared.error.TextError.{TextError}
 use Rattle.aspif.specs.declared.error.TextError.the-variants.{OverLimit, UnexpectedEnd}
@@ -37,12 +38,8 @@ then-made P Q (Err e) k h go = tt
 abbrev After-place : ℕ → Field → Type 0
 After-place at f = at < f .next
 
-weaker : (at end : ℕ) (r : Result Field TextError) → made r (λ f. (at < f .next) × (f .next ≤ end)) → made r (After-place at)
-weaker at end (Ok f) h = h .0
-weaker at end (Err e) h = tt
-
 field-after : (after : After) (text : List ℕ) (at : ℕ) → made (fieldAt after text at) (After-place at)
-field-after after text at = weaker at (length text) (fieldAt after text at) (field-moves after text at)
+field-after after text at = made-weaker (fieldAt after text at) (λ f. (at < f .next) × (f .next ≤ length text)) (After-place at) (λ f h. h .0) (field-moves after text at)
 
 -- counts, types, rows
 
@@ -62,18 +59,17 @@ before-after : (at : ℕ) (z : ℤ) (r : Result Row TextError) → made r (λ w.
 before-after at z (Ok r) h = h
 before-after at z (Err e) h = tt
 
-later : (a b : ℕ) (r : Result Row TextError) → a ≤ b → made r (λ w. b ≤ w .next) → made r (λ w. a ≤ w .next)
-later a b (Ok r) l h = omega arith
-later a b (Err e) l h = tt
+later : (i : Items) (n : ℕ) (text : List ℕ) (at next : ℕ) → at ≤ next → made (rowAt i n text next) (λ w. next ≤ w .next) → made (rowAt i n text next) (λ w. at ≤ w .next)
+later i n text at next l h = made-weaker (rowAt i n text next) (λ w. next ≤ w .next) (λ w. at ≤ w .next) (λ w k. omega arith) h
 
 row-after : (i : Items) (n : ℕ) (text : List ℕ) (at : ℕ) → made (rowAt i n text at) (λ w. at ≤ w .next)
 unfolding rowAt
 row-after i zero text at = omega arith
-row-after i (suc n) text at = then-made (After-place at) (λ w. at ≤ w .next) (itemAt i n text at) _ (item-after i n text at) (λ f h. before-after at (f .value) (rowAt i n text (f .next)) (later at (f .next) (rowAt i n text (f .next)) (omega arith) (row-after i n text (f .next))))
+row-after i (suc n) text at = then-made (After-place at) (λ w. at ≤ w .next) (itemAt i n text at) _ (item-after i n text at) (λ f h. before-after at (f .value) (rowAt i n text (f .next)) (later i n text at (f .next) (omega arith) (row-after i n text (f .next))))
 
 counted-after : (c : Count) (i : Items) (text : List ℕ) (at : ℕ) → made (countedAt c i text at) (λ w. at ≤ w .next)
 unfolding countedAt
-counted-after c i text at = then-made (λ m. at ≤ m .next) (λ w. at ≤ w .next) (countAt c text at) _ (count-after c text at) (λ m h. later at (m .next) (rowAt i (m .count) text (m .next)) h (row-after i (m .count) text (m .next)))
+counted-after c i text at = then-made (λ m. at ≤ m .next) (λ w. at ≤ w .next) (countAt c text at) _ (count-after c text at) (λ m h. later i (m .count) text at (m .next) h (row-after i (m .count) text (m .next)))
 
 head-by : (at n : ℕ) (z : ℤ) (next : ℕ) → at ≤ next → made (headJudged n (record { value = z; ending = 0; next = next })) (λ m. at ≤ m .next)
 head-by at n (pos m) next h = cond-both (eqb m 0) _ _ (λ r. made r (λ k. at ≤ k .next)) (λ _. h) (λ _. cond-both (eqb m 1) _ _ (λ r. made r (λ k. at ≤ k .next)) (λ _. h) (λ _. tt))
@@ -127,8 +123,7 @@ unfolding skippedAt endOf
 skipped-after kind text at = cond-both (ltb (at + restOf text at) (length text)) _ _ (Ends-after (at + 1)) (λ _. omega arith) (λ _. tt)
 
 sooner : (a b : ℕ) (r : Result Line TextError) → a ≤ b → Ends-after b r → Ends-after a r
-sooner a b (Ok l) h e = omega arith
-sooner a b (Err x) h e = tt
+sooner a b r h e = made-weaker r (λ l. b ≤ endOf l) (λ l. a ≤ endOf l) (λ l k. omega arith) e
 
 kind-by : (text : List ℕ) (at n : ℕ) (z : ℤ) (next : ℕ) → at < next → Ends-after (at + 1) (byKind text n (record { value = z; ending = 0; next = next }))
 unfolding endOf
