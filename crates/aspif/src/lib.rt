@@ -1,4 +1,6 @@
 // Program texts in the format aspif 1.0.0.
+#![tactic(auto)]
+
 pub mod error;
 pub mod faults;
 mod integers;

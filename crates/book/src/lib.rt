@@ -1,4 +1,6 @@
 // Rule books: what a book is, and two kinds of them.
+#![tactic(auto)]
+
 pub mod book;
 pub mod error;
 pub mod facts;

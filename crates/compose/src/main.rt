@@ -1,4 +1,6 @@
 // Prints the program text of one invoice: its standing rules, and what was delivered today.
+#![tactic(auto)]
+
 use anyhow::anyhow;
 use numbers::lists::{Names, RuleLists};
 use report::composing::compose;

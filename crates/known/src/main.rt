@@ -1,5 +1,7 @@
 // Rewrites the known results in the folder where it is run, and compares byte for byte. Each has two files: NAME.aspif,
 // the text, and NAME.rules, its rules as they have to come out, or the line of the refusal.
+#![tactic(auto)]
+
 use anyhow::anyhow;
 use report::rewriting::rewrite_or_tell;
 use std::fs;

@@ -1,4 +1,6 @@
 // Rule books over lists of numbers.
+#![tactic(auto)]
+
 mod checks;
 mod integers;
 pub mod lists;

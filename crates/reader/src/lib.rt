@@ -1,4 +1,6 @@
 // Program texts, read.
+#![tactic(auto)]
+
 mod digits;
 mod fields;
 mod fills;

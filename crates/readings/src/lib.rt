@@ -1,3 +1,5 @@
 // Program texts read into lists, and what is refused.
+#![tactic(auto)]
+
 #[cfg(test)]
 mod texts;

@@ -1,4 +1,6 @@
 // Reads a program text from standard input and prints its rules again, or the line that tells why it is refused.
+#![tactic(auto)]
+
 use anyhow::anyhow;
 use report::rewriting::rewrite_or_tell;
 use std::io::{Read, Write};

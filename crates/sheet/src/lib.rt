@@ -1,4 +1,6 @@
 // Reason sheets.
+#![tactic(auto)]
+
 pub mod call;
 mod completes;
 pub mod done;

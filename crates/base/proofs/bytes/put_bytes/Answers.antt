@@ -10,5 +10,5 @@ returns c =
     let fits : too_short (length c.args.out.now) c.args.at c.args.bytes.now ≡ false = le-ltb _ _ (omega arith) in
     record {
       result = grind (arith, nat_tests);
-      list = sets_part _ _ c.args.out.now c.args.bytes.now _ c.copy-from-slice.ensures.after (omega arith) (omega arith) ∙ sym (cond-false _ _ _ fits);
+      list = sets_part _ _ c.args.out.now c.args.bytes.now _ c.copy_from_slice.ensures.after (omega arith) (omega arith) ∙ sym (cond-false _ _ _ fits);
     }
