@@ -2,8 +2,8 @@ use Rattle.std.proofs.Common.{arith}
 use Rattle.base.proofs.Puts.{length_digit, length_step, length_20}
 use Rattle.base.proofs.bytes.digit_count.Goals as goal
 
-pub overflow-add-count : goal.overflow-add-count
-overflow-add-count c = record { fits = grind (arith, length_20) }
+pub overflow_add-count : goal.overflow_add-count
+overflow_add-count c = grind (arith, length_20)
 
 pub loop-rest-preserved : goal.loop-rest-preserved
 loop-rest-preserved c = (grind (arith, length_step), omega arith)
