@@ -1,5 +1,5 @@
 -- Where the rules of two joined books stand.
-use Rattle.std.proofs.Common.{◌≡◌, ℕ, ◌+◌, ◌-◌, ◌<◌, true, length, sym, length-append}
+use Rattle.std.proofs.Common.{◌≡◌, ℕ, ◌+◌, ◌<◌, true, length, sym, length-append}
 use Rattle.base.proofs.Places.{nth_append_left, nth_append_right}
 use Rattle.book.specs.Rules.{Rules, rule_at}
 use Rattle.book.specs.Joined.{joined, fit_together}
