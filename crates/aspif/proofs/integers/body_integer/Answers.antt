@@ -7,8 +7,8 @@ use Rattle.aspif.specs.Integers.{body_in}
 use Rattle.aspif.proofs.Lines.{body_size_here}
 use Rattle.aspif.proofs.integers.body_integer.Goals as goal
 
-pub overflow-cast-result : goal.overflow-cast-result
-overflow-cast-result g c = record { sfits = omega (arith, literals_255 (g.B.Book.meaning c.args.book.now) (g.B.Book.lawful c.args.book.now) c.args.rule c.in-Some.size c.in-Some.ensures) }
+pub overflow_cast-result : goal.overflow_cast-result
+overflow_cast-result g c = record { sfits = omega (arith, literals_255 (g.B.Book.meaning c.args.book.now) (g.B.Book.lawful c.args.book.now) c.args.rule c.in-Some.size c.in-Some.ensures) }
 
 pub returns-then-at-eq1 : goal.returns-then-at-eq1
 returns-then-at-eq1 g c =

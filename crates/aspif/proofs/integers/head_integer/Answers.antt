@@ -4,8 +4,8 @@ use Rattle.std.proofs.lemmas.Int.{to_z_pos}
 use Rattle.book.proofs.Bounds.{atom_1024}
 use Rattle.aspif.proofs.integers.head_integer.Goals as goal
 
-pub overflow-cast-result : goal.overflow-cast-result
-overflow-cast-result g c = record { sfits = omega (arith, atom_1024 (g.B.Book.meaning c.args.book.now) (g.B.Book.lawful c.args.book.now) c.args.rule c.args.at c.in-Some.atom c.in-Some.ensures) }
+pub overflow_cast-result : goal.overflow_cast-result
+overflow_cast-result g c = record { sfits = omega (arith, atom_1024 (g.B.Book.meaning c.args.book.now) (g.B.Book.lawful c.args.book.now) c.args.rule c.args.at c.in-Some.atom c.in-Some.ensures) }
 
 pub returns-in-Some : goal.returns-in-Some
 returns-in-Some g c =

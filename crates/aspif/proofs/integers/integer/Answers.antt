@@ -7,8 +7,8 @@ use Rattle.aspif.specs.Integers.{encode_in}
 use Rattle.aspif.proofs.Lines.{size_here, head_here, body_here}
 use Rattle.aspif.proofs.integers.integer.Goals as goal
 
-pub overflow-cast-result : goal.overflow-cast-result
-overflow-cast-result g c = record { sfits = omega (arith, heads_255 (g.B.Book.meaning c.args.book.now) (g.B.Book.lawful c.args.book.now) c.args.rule c.in-Some.size c.in-Some.ensures) }
+pub overflow_cast-result : goal.overflow_cast-result
+overflow_cast-result g c = record { sfits = omega (arith, heads_255 (g.B.Book.meaning c.args.book.now) (g.B.Book.lawful c.args.book.now) c.args.rule c.in-Some.size c.in-Some.ensures) }
 
 pub returns-then-at-eq1 : goal.returns-then-at-eq1
 returns-then-at-eq1 g c =
@@ -20,9 +20,9 @@ returns-then-at-eq1 g c =
 pub returns-then-at-size : goal.returns-then-at-size
 returns-then-at-size g c =
     let R = g.B.Book.meaning c.args.book.now in
-    c.head-integer.ensures ∙ head_here c.in-Some.size (rule_at R c.args.rule) c.args.at (c.args.at - 2) c.in-Some.ensures (omega arith) (omega arith)
+    c.head_integer.ensures ∙ head_here c.in-Some.size (rule_at R c.args.rule) c.args.at (c.args.at - 2) c.in-Some.ensures (omega arith) (omega arith)
 
 pub returns-else-at-size : goal.returns-else-at-size
 returns-else-at-size g c =
     let R = g.B.Book.meaning c.args.book.now in
-    c.body-integer.ensures ∙ body_here c.in-Some.size (rule_at R c.args.rule) c.args.at (c.args.at - 2 - c.in-Some.size) c.in-Some.ensures (omega arith)
+    c.body_integer.ensures ∙ body_here c.in-Some.size (rule_at R c.args.rule) c.args.at (c.args.at - 2 - c.in-Some.size) c.in-Some.ensures (omega arith)

@@ -10,11 +10,11 @@ few g c =
     let l = g.B.Book.lawful c.args.book.now in
     omega (arith, heads_255 R l c.args.rule c.in-Some-Some.heads c.in-Some-Some.ensures, literals_255 R l c.args.rule c.in-Some-Some.literals c.in-Some-Some.ensures')
 
-pub overflow-add-result : goal.overflow-add-result
-overflow-add-result g c = record { fits = omega (arith, few g c) }
+pub overflow_add-result : goal.overflow_add-result
+overflow_add-result g c = omega (arith, few g c)
 
-pub overflow-add-result-in-Some-Some : goal.overflow-add-result-in-Some-Some
-overflow-add-result-in-Some-Some g c = record { fits = omega (arith, few g c) }
+pub overflow_add-result-in-Some-Some : goal.overflow_add-result-in-Some-Some
+overflow_add-result-in-Some-Some g c = omega (arith, few g c)
 
 pub returns-in-Some-Some : goal.returns-in-Some-Some
 returns-in-Some-Some g c =

@@ -7,7 +7,7 @@ use Rattle.numbers.proofs.numbers.atom_in.Goals as goal
 pub returns-in-Some : goal.returns-in-Some
 returns-in-Some c =
     let f : SFits w32 c.in-Some.z = search rules in
-    let size = simp to_z-of_z at c.unsigned-abs.ensures.value in
+    let size = simp to_z-of_z at c.unsigned_abs.ensures.value in
     ap Some size ∙ ap (option_map nat_abs) c.in-Some.ensures ∙ sym (nth_map nat_abs c.args.head.now c.args.at)
 
 pub returns-in-None : goal.returns-in-None

@@ -4,7 +4,7 @@ use Rattle.numbers.proofs.numbers.NumbersBook.new.Goals as goal
 
 pub returns : goal.returns
 returns c = record {
-  rules = c.made-of.ensures.rules;
-  names = c.made-of.ensures.names;
-  decodes = λ R l e. c.made-of.ensures.rules ∙ ((faithful c.args.lists).encoded R l e).1;
+  rules = c.made_of.ensures.rules;
+  names = c.made_of.ensures.names;
+  decodes = λ R l e. c.made_of.ensures.rules ∙ ((faithful c.args.lists).encoded R l e).1;
 }

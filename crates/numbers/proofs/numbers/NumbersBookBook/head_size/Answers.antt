@@ -4,4 +4,4 @@ use Rattle.book.specs.Rules.{head_size}
 use Rattle.numbers.proofs.numbers.NumbersBookBook.head_size.Goals as goal
 
 pub returns-in-Some : goal.returns-in-Some
-returns-in-Some c = ap Some (ap length c.head-part.ensures.part ∙ sym (length-map _ nat_abs)) ∙ sym (ap head_size c.in-Some.ensures)
+returns-in-Some c = ap Some (ap length c.head_part.ensures.part ∙ sym (length-map _ nat_abs)) ∙ sym (ap head_size c.in-Some.ensures)
