@@ -10,7 +10,7 @@ use book::book::Book;
 use book::kind::Kind;
 
 fn head_type<B: Book>(book: &B, rule: u32) -> Option<i32>
-    ensures { result ≡ option_map head_type (kind_of (rule_at (meaning book.now) rule)) }
+    ensures { result ≡ option_map head_type (kind_of (rule_at (B.meaning book.now) rule)) }
 {
     match book.kind(rule) {
         Some(Kind::Plain) => Some(0),
@@ -20,7 +20,7 @@ fn head_type<B: Book>(book: &B, rule: u32) -> Option<i32>
 }
 
 fn head_integer<B: Book>(book: &B, rule: u32, at: u32) -> Option<i32>
-    ensures { result ≡ option_map pos (head_atom (rule_at (meaning book.now) rule) at) }
+    ensures { result ≡ option_map pos (head_atom (rule_at (B.meaning book.now) rule) at) }
 {
     match book.head(rule, at) {
         Some(atom) => Some(atom as i32),
@@ -29,7 +29,7 @@ fn head_integer<B: Book>(book: &B, rule: u32, at: u32) -> Option<i32>
 }
 
 fn body_integer<B: Book>(book: &B, rule: u32, at: u32) -> Option<i32>
-    ensures { result ≡ slice_get (body_in (rule_at (meaning book.now) rule)) at }
+    ensures { result ≡ slice_get (body_in (rule_at (B.meaning book.now) rule)) at }
 {
     match book.body_size(rule) {
         None => None,
@@ -46,7 +46,7 @@ fn body_integer<B: Book>(book: &B, rule: u32, at: u32) -> Option<i32>
 }
 
 pub(crate) fn integer<B: Book>(book: &B, rule: u32, at: u32) -> Option<i32>
-    ensures { result ≡ slice_get (encode_in (rule_at (meaning book.now) rule)) at }
+    ensures { result ≡ slice_get (encode_in (rule_at (B.meaning book.now) rule)) at }
 {
     match book.head_size(rule) {
         None => None,
@@ -66,7 +66,7 @@ pub(crate) fn integer<B: Book>(book: &B, rule: u32, at: u32) -> Option<i32>
 
 // How many integers a rule has.
 pub(crate) fn integer_count<B: Book>(book: &B, rule: u32) -> u32
-    ensures count { result ≡ length (encode_in (rule_at (meaning book.now) rule)) }
+    ensures count { result ≡ length (encode_in (rule_at (B.meaning book.now) rule)) }
     ensures bound { result ≤ 514 }
 {
     match (book.head_size(rule), book.body_size(rule)) {

@@ -18,9 +18,9 @@ fn put_integer<B: Book>(
     rule: u32,
     i: u32,
 ) -> Result<usize, TooShort>
-    requires { at + length (spaced_in (slice_get (encode_in (rule_at (meaning book.now) rule)) i)) ≤ length out.old }
-    ensures end { result ≡ Ok (at + length (spaced_in (slice_get (encode_in (rule_at (meaning book.now) rule)) i))) }
-    ensures list { out.new ≡ sets out.old at (spaced_in (slice_get (encode_in (rule_at (meaning book.now) rule)) i)) }
+    requires { at + length (spaced_in (slice_get (encode_in (rule_at (B.meaning book.now) rule)) i)) ≤ length out.old }
+    ensures end { result ≡ Ok (at + length (spaced_in (slice_get (encode_in (rule_at (B.meaning book.now) rule)) i))) }
+    ensures list { out.new ≡ sets out.old at (spaced_in (slice_get (encode_in (rule_at (B.meaning book.now) rule)) i)) }
 {
     match integer(book, rule, i) {
         Some(z) => {
@@ -33,9 +33,9 @@ fn put_integer<B: Book>(
 }
 
 fn put_integers<B: Book>(out: &mut [u8], at: usize, book: &B, rule: u32) -> Result<usize, TooShort>
-    requires { at + length (spaced (encode_in (rule_at (meaning book.now) rule))) ≤ length out.old }
-    ensures end { result ≡ Ok (at + length (spaced (encode_in (rule_at (meaning book.now) rule)))) }
-    ensures list { out.new ≡ sets out.old at (spaced (encode_in (rule_at (meaning book.now) rule))) }
+    requires { at + length (spaced (encode_in (rule_at (B.meaning book.now) rule))) ≤ length out.old }
+    ensures end { result ≡ Ok (at + length (spaced (encode_in (rule_at (B.meaning book.now) rule)))) }
+    ensures list { out.new ≡ sets out.old at (spaced (encode_in (rule_at (B.meaning book.now) rule))) }
 {
     let mut to = at;
     for i in 0..integer_count(book, rule) {
@@ -45,9 +45,9 @@ fn put_integers<B: Book>(out: &mut [u8], at: usize, book: &B, rule: u32) -> Resu
 }
 
 fn put_line<B: Book>(out: &mut [u8], at: usize, book: &B, rule: u32) -> Result<usize, TooShort>
-    requires { at + length (line_in (rule_at (meaning book.now) rule)) ≤ length out.old }
-    ensures end { result ≡ Ok (at + length (line_in (rule_at (meaning book.now) rule))) }
-    ensures list { out.new ≡ sets out.old at (line_in (rule_at (meaning book.now) rule)) }
+    requires { at + length (line_in (rule_at (B.meaning book.now) rule)) ≤ length out.old }
+    ensures end { result ≡ Ok (at + length (line_in (rule_at (B.meaning book.now) rule))) }
+    ensures list { out.new ≡ sets out.old at (line_in (rule_at (B.meaning book.now) rule)) }
 {
     out[at] = b'1';
     let end = put_integers(out, at + 1, book, rule)?;
@@ -56,9 +56,9 @@ fn put_line<B: Book>(out: &mut [u8], at: usize, book: &B, rule: u32) -> Result<u
 }
 
 fn put_lines<B: Book>(out: &mut [u8], at: usize, book: &B) -> Result<usize, TooShort>
-    requires { at + length (rule_lines (meaning book.now).rules) ≤ length out.old }
-    ensures end { result ≡ Ok (at + length (rule_lines (meaning book.now).rules)) }
-    ensures list { out.new ≡ sets out.old at (rule_lines (meaning book.now).rules) }
+    requires { at + length (rule_lines (B.meaning book.now).rules) ≤ length out.old }
+    ensures end { result ≡ Ok (at + length (rule_lines (B.meaning book.now).rules)) }
+    ensures list { out.new ≡ sets out.old at (rule_lines (B.meaning book.now).rules) }
 {
     let mut to = at;
     for rule in 0..book.rules() {
@@ -84,9 +84,9 @@ fn put_closing(out: &mut [u8], at: usize) -> Result<usize, TooShort>
 }
 
 pub(crate) fn put_text<B: Book>(out: &mut [u8], book: &B) -> Result<usize, TooShort>
-    requires { length (text_of (meaning book.now)) ≤ length out.old }
-    ensures end { result ≡ Ok (length (text_of (meaning book.now))) }
-    ensures list { out.new ≡ sets out.old 0 (text_of (meaning book.now)) }
+    requires { length (text_of (B.meaning book.now)) ≤ length out.old }
+    ensures end { result ≡ Ok (length (text_of (B.meaning book.now))) }
+    ensures list { out.new ≡ sets out.old 0 (text_of (B.meaning book.now)) }
 {
     let start = put_heading(out)?;
     let end = put_lines(out, start, book)?;

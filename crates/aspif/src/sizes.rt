@@ -17,7 +17,7 @@ pub(crate) struct Measure {
 }
 
 fn spaced_size<B: Book>(book: &B, rule: u32, at: u32) -> usize
-    ensures size { result ≡ length (spaced_in (slice_get (encode_in (rule_at (meaning book.now) rule)) at)) }
+    ensures size { result ≡ length (spaced_in (slice_get (encode_in (rule_at (B.meaning book.now) rule)) at)) }
     ensures bound { result ≤ 22 }
 {
     match integer(book, rule, at) {
@@ -27,7 +27,7 @@ fn spaced_size<B: Book>(book: &B, rule: u32, at: u32) -> usize
 }
 
 fn integers_size<B: Book>(book: &B, rule: u32) -> usize
-    ensures size { result ≡ length (spaced (encode_in (rule_at (meaning book.now) rule))) }
+    ensures size { result ≡ length (spaced (encode_in (rule_at (B.meaning book.now) rule))) }
     ensures bound { result ≤ 11308 }
 {
     let mut size = 0;
@@ -38,15 +38,15 @@ fn integers_size<B: Book>(book: &B, rule: u32) -> usize
 }
 
 fn line_size<B: Book>(book: &B, rule: u32) -> usize
-    ensures size { result ≡ length (line_in (rule_at (meaning book.now) rule)) }
+    ensures size { result ≡ length (line_in (rule_at (B.meaning book.now) rule)) }
     ensures bound { result ≤ 11310 }
 {
     2 + integers_size(book, rule)
 }
 
 pub(crate) fn measure_of<B: Book>(book: &B) -> Measure
-    ensures bytes { result.bytes ≡ length (text_of (meaning book.now)) }
-    ensures integers { result.integers ≡ length (encode (meaning book.now).rules) }
+    ensures bytes { result.bytes ≡ length (text_of (B.meaning book.now)) }
+    ensures integers { result.integers ≡ length (encode (B.meaning book.now).rules) }
 {
     let mut bytes = 12;
     let mut integers = 0;

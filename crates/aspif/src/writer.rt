@@ -9,8 +9,8 @@ use book::book::Book;
 
 // Fills the buffer from the front with the book's rules as a text, and answers how many bytes it has.
 pub fn write<B: Book>(book: &B, out: &mut [u8]) -> Result<usize, TextError>
-    ensures result { result ≡ write_answer (meaning book.now) (length out.old) }
-    ensures buffer { out.new ≡ write_into (meaning book.now) out.old }
+    ensures result { result ≡ write_answer (B.meaning book.now) (length out.old) }
+    ensures buffer { out.new ≡ write_into (B.meaning book.now) out.old }
 {
     let size = measure_of(book);
     if size.bytes > 65_536 || size.integers > 16_384 {

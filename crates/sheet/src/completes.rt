@@ -19,15 +19,15 @@ use book::book::Book;
 impl<'b, B: Book> Sheet<'b, B> {
     // Enters what is allowed, in rounds over the atoms, until nothing is. Answers how many atoms stay unmarked.
     pub fn complete(&mut self) -> Result<u32, SheetError>
-        ensures does { (result, view meaning self.new) ≡ leaving complete_call (view meaning self.old) }
-        ensures keeps { StaysReliable (view meaning self.old) (view meaning self.new) }
-        ensures honest { NeverMisleads (view meaning self.old) }
+        ensures does { (result, view B.meaning self.new) ≡ leaving complete_call (view B.meaning self.old) }
+        ensures keeps { StaysReliable (view B.meaning self.old) (view B.meaning self.new) }
+        ensures honest { NeverMisleads (view B.meaning self.old) }
     {
         self.finish()
     }
 
     fn finish(&mut self) -> Result<u32, SheetError>
-        ensures { (result, view meaning self.new) ≡ leaving complete_call (view meaning self.old) }
+        ensures { (result, view B.meaning self.new) ≡ leaving complete_call (view B.meaning self.old) }
     {
         if !self.opened {
             return Err(SheetError::WrongState);
@@ -39,7 +39,7 @@ impl<'b, B: Book> Sheet<'b, B> {
 
     // Whether the sheet has no objection to the reason.
     fn admits(&self, atom: u32, reason: Reason) -> bool
-        ensures { result ≡ admitting (view meaning self.now).rules (view meaning self.now).state atom reason }
+        ensures { result ≡ admitting (view B.meaning self.now).rules (view B.meaning self.now).state atom reason }
     {
         judge(
             self.book,
@@ -51,7 +51,7 @@ impl<'b, B: Book> Sheet<'b, B> {
     }
 
     fn lowest_support(&self, atom: u32) -> Option<Reason>
-        ensures { result ≡ lowest (view meaning self.now).rules (view meaning self.now).state atom BySupport }
+        ensures { result ≡ lowest (view B.meaning self.now).rules (view B.meaning self.now).state atom BySupport }
     {
         for rule in 0..self.book.rules() {
             if self.admits(atom, Reason::Support(rule)) {
@@ -62,7 +62,7 @@ impl<'b, B: Book> Sheet<'b, B> {
     }
 
     fn lowest_required(&self, atom: u32) -> Option<Reason>
-        ensures { result ≡ lowest (view meaning self.now).rules (view meaning self.now).state atom ByRequired }
+        ensures { result ≡ lowest (view B.meaning self.now).rules (view B.meaning self.now).state atom ByRequired }
     {
         for rule in 0..self.book.rules() {
             if self.admits(atom, Reason::Required(rule)) {
@@ -74,7 +74,7 @@ impl<'b, B: Book> Sheet<'b, B> {
 
     // Support by the lowest rule, else lack of support, else required by the lowest rule.
     fn first_reason(&self, atom: u32) -> Option<Reason>
-        ensures { result ≡ first_reason (view meaning self.now).rules (view meaning self.now).state atom }
+        ensures { result ≡ first_reason (view B.meaning self.now).rules (view B.meaning self.now).state atom }
     {
         if let Some(reason) = self.lowest_support(atom) {
             return Some(reason);
@@ -87,7 +87,7 @@ impl<'b, B: Book> Sheet<'b, B> {
 
     // Enters the first reason for the atom, if there is one.
     fn step(&mut self, atom: u32)
-        ensures { view meaning self.new ≡ changing (λ R s. enter_first R s atom (first_reason R s atom)) (view meaning self.old) }
+        ensures { view B.meaning self.new ≡ changing (λ R s. enter_first R s atom (first_reason R s atom)) (view B.meaning self.old) }
     {
         if let Some(reason) = self.first_reason(atom) {
             let _ = self.take(Proposal { atom, reason });
@@ -95,7 +95,7 @@ impl<'b, B: Book> Sheet<'b, B> {
     }
 
     fn round(&mut self)
-        ensures { view meaning self.new ≡ changing rounding (view meaning self.old) }
+        ensures { view B.meaning self.new ≡ changing rounding (view B.meaning self.old) }
     {
         for i in 0..self.book.atoms() {
             self.step(i + 1);
@@ -104,7 +104,7 @@ impl<'b, B: Book> Sheet<'b, B> {
 
     // Rounds until one enters nothing, at most so many.
     fn rounds(&mut self, most: u32)
-        ensures { view meaning self.new ≡ changing (λ R s. roundsOf R most s) (view meaning self.old) }
+        ensures { view B.meaning self.new ≡ changing (λ R s. roundsOf R most s) (view B.meaning self.old) }
     {
         for _turn in 0..most {
             let before = self.entries.len();

@@ -14,15 +14,15 @@ use book::book::Book;
 impl<'b, B: Book> Sheet<'b, B> {
     // Takes the proposal as an entry if it is allowed.
     pub fn enter(&mut self, proposal: Proposal) -> Result<(), SheetError>
-        ensures does { (result, view meaning self.new) ≡ leaving (λ R s. enter_call R s proposal) (view meaning self.old) }
-        ensures keeps { StaysReliable (view meaning self.old) (view meaning self.new) }
-        ensures exactly { TakesTheAllowed (view meaning self.old).rules (view meaning self.old).state proposal }
+        ensures does { (result, view B.meaning self.new) ≡ leaving (λ R s. enter_call R s proposal) (view B.meaning self.old) }
+        ensures keeps { StaysReliable (view B.meaning self.old) (view B.meaning self.new) }
+        ensures exactly { TakesTheAllowed (view B.meaning self.old).rules (view B.meaning self.old).state proposal }
     {
         self.take(proposal)
     }
 
     pub(crate) fn take(&mut self, proposal: Proposal) -> Result<(), SheetError>
-        ensures { (result, view meaning self.new) ≡ leaving (λ R s. enter_call R s proposal) (view meaning self.old) }
+        ensures { (result, view B.meaning self.new) ≡ leaving (λ R s. enter_call R s proposal) (view B.meaning self.old) }
     {
         if !self.opened {
             return Err(SheetError::WrongState);

@@ -31,7 +31,7 @@ fn judge_support<B: Book>(
     atom: u32,
     rule: u32,
 ) -> Result<(), SheetError>
-    ensures { result ≡ reason_verdict (meaning book.now) (flagged answer.now) (marking marks.now) atom (BySupport rule) }
+    ensures { result ≡ reason_verdict (B.meaning book.now) (flagged answer.now) (marking marks.now) atom (BySupport rule) }
 {
     if !is_in(answer, atom) {
         return Err(SheetError::WrongSide);
@@ -44,7 +44,7 @@ fn judge_support<B: Book>(
 
 // The first rule with the atom in its head that has no failing literal.
 fn first_unfailing<B: Book>(book: &B, answer: &[bool], marks: &[Mark], atom: u32) -> Option<u32>
-    ensures { result ≡ first_unfailing (meaning book.now) (marking marks.now) atom }
+    ensures { result ≡ first_unfailing (B.meaning book.now) (marking marks.now) atom }
 {
     for rule in 0..book.rules() {
         if is_unfailing(book, answer, marks, rule, atom) {
@@ -60,7 +60,7 @@ fn judge_lack<B: Book>(
     marks: &[Mark],
     atom: u32,
 ) -> Result<(), SheetError>
-    ensures { result ≡ reason_verdict (meaning book.now) (flagged answer.now) (marking marks.now) atom ByLack }
+    ensures { result ≡ reason_verdict (B.meaning book.now) (flagged answer.now) (marking marks.now) atom ByLack }
 {
     if is_in(answer, atom) {
         return Err(SheetError::WrongSide);
@@ -78,7 +78,7 @@ fn judge_required<B: Book>(
     atom: u32,
     rule: u32,
 ) -> Result<(), SheetError>
-    ensures { result ≡ reason_verdict (meaning book.now) (flagged answer.now) (marking marks.now) atom (ByRequired rule) }
+    ensures { result ≡ reason_verdict (B.meaning book.now) (flagged answer.now) (marking marks.now) atom (ByRequired rule) }
 {
     if is_in(answer, atom) {
         return Err(SheetError::WrongSide);
@@ -97,7 +97,7 @@ fn judge_reason<B: Book>(
     atom: u32,
     reason: Reason,
 ) -> Result<(), SheetError>
-    ensures { result ≡ reason_verdict (meaning book.now) (flagged answer.now) (marking marks.now) atom reason }
+    ensures { result ≡ reason_verdict (B.meaning book.now) (flagged answer.now) (marking marks.now) atom reason }
 {
     match reason {
         Reason::Support(rule) => judge_support(book, answer, marks, atom, rule),
@@ -112,7 +112,7 @@ pub(crate) fn judge<B: Book>(
     marks: &[Mark],
     proposal: Proposal,
 ) -> Result<(), SheetError>
-    ensures { result ≡ verdict (meaning book.now) (flagged answer.now) (marking marks.now) proposal }
+    ensures { result ≡ verdict (B.meaning book.now) (flagged answer.now) (marking marks.now) proposal }
 {
     if !is_atom(book.atoms(), proposal.atom) {
         return Err(SheetError::UnknownAtom(0));

@@ -28,7 +28,7 @@ fn is_named(literals: &[i32], atom: u32) -> bool
 }
 
 fn is_unknown_at<B: Book>(book: &B, literals: &[i32], at: usize) -> bool
-    ensures { result ≡ unknown_at (meaning book.now) literals.now at }
+    ensures { result ≡ unknown_at (B.meaning book.now) literals.now at }
 {
     match item(literals, at) {
         Some(literal) => !is_atom(book.atoms(), literal.unsigned_abs()),
@@ -46,14 +46,14 @@ fn is_repeated_at(literals: &[i32], at: usize) -> bool
 }
 
 fn is_faulty_at<B: Book>(book: &B, literals: &[i32], at: usize) -> bool
-    ensures { result ≡ faulty_at (meaning book.now) literals.now at }
+    ensures { result ≡ faulty_at (B.meaning book.now) literals.now at }
 {
     is_unknown_at(book, literals, at) || is_repeated_at(literals, at)
 }
 
 // The first position with an atom that the book does not have, or that stands earlier in the list.
 pub(crate) fn first_fault<B: Book>(book: &B, literals: &[i32]) -> Option<u32>
-    ensures { result ≡ first_fault (meaning book.now) literals.now }
+    ensures { result ≡ first_fault (B.meaning book.now) literals.now }
 {
     for at in 0..literals.len() {
         if is_faulty_at(book, literals, at) {
@@ -64,7 +64,7 @@ pub(crate) fn first_fault<B: Book>(book: &B, literals: &[i32]) -> Option<u32>
 }
 
 pub(crate) fn fault_at<B: Book>(book: &B, literals: &[i32], at: u32) -> SheetError
-    ensures { result ≡ fault_at (meaning book.now) literals.now at }
+    ensures { result ≡ fault_at (B.meaning book.now) literals.now at }
 {
     if is_unknown_at(book, literals, at as usize) {
         SheetError::UnknownAtom(at)
@@ -75,7 +75,7 @@ pub(crate) fn fault_at<B: Book>(book: &B, literals: &[i32], at: u32) -> SheetErr
 
 // The first rule that is broken under the answer.
 pub(crate) fn first_broken<B: Book>(book: &B, answer: &[bool], marks: &[Mark]) -> Option<u32>
-    ensures { result ≡ first_broken (meaning book.now) (flagged answer.now) }
+    ensures { result ≡ first_broken (B.meaning book.now) (flagged answer.now) }
 {
     for rule in 0..book.rules() {
         if is_broken(book, answer, marks, rule) {

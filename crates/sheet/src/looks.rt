@@ -22,7 +22,7 @@ fn is_unmet_at<B: Book>(
     rule: u32,
     at: u32,
 ) -> bool
-    ensures { result ≡ unmet_at (meeting test (flagged answer.now) (marking marks.now)) (rule_at (meaning book.now) rule) at }
+    ensures { result ≡ unmet_at (meeting test (flagged answer.now) (marking marks.now)) (rule_at (B.meaning book.now) rule) at }
 {
     match book.literal(rule, at) {
         Some(literal) => !meets(test, answer, marks, literal),
@@ -38,7 +38,7 @@ pub(crate) fn first_unmet<B: Book>(
     test: Test,
     rule: u32,
 ) -> Option<u32>
-    ensures { result ≡ first_unmet (meeting test (flagged answer.now) (marking marks.now)) (rule_at (meaning book.now) rule) }
+    ensures { result ≡ first_unmet (meeting test (flagged answer.now) (marking marks.now)) (rule_at (B.meaning book.now) rule) }
 {
     let Some(size) = book.body_size(rule) else {
         return None;
@@ -52,7 +52,7 @@ pub(crate) fn first_unmet<B: Book>(
 }
 
 fn head_is_at<B: Book>(book: &B, rule: u32, atom: u32, at: u32) -> bool
-    ensures { result ≡ passes (nat_eq atom) (head_atom (rule_at (meaning book.now) rule) at) }
+    ensures { result ≡ passes (nat_eq atom) (head_atom (rule_at (B.meaning book.now) rule) at) }
 {
     match book.head(rule, at) {
         Some(head) => atom == head,
@@ -62,7 +62,7 @@ fn head_is_at<B: Book>(book: &B, rule: u32, atom: u32, at: u32) -> bool
 
 // Whether the rule has the atom in its head.
 pub(crate) fn is_in_head<B: Book>(book: &B, rule: u32, atom: u32) -> bool
-    ensures { result ≡ passes (fits_support atom) (rule_at (meaning book.now) rule) }
+    ensures { result ≡ passes (fits_support atom) (rule_at (B.meaning book.now) rule) }
 {
     let Some(size) = book.head_size(rule) else {
         return false;
@@ -76,7 +76,7 @@ pub(crate) fn is_in_head<B: Book>(book: &B, rule: u32, atom: u32) -> bool
 }
 
 fn head_is_true_at<B: Book>(book: &B, answer: &[bool], rule: u32, at: u32) -> bool
-    ensures { result ≡ passes (flagged answer.now) (head_atom (rule_at (meaning book.now) rule) at) }
+    ensures { result ≡ passes (flagged answer.now) (head_atom (rule_at (B.meaning book.now) rule) at) }
 {
     match book.head(rule, at) {
         Some(head) => is_in(answer, head),
@@ -86,7 +86,7 @@ fn head_is_true_at<B: Book>(book: &B, answer: &[bool], rule: u32, at: u32) -> bo
 
 // Whether a head atom of the rule is in the answer.
 fn has_true_head<B: Book>(book: &B, answer: &[bool], rule: u32) -> bool
-    ensures { result ≡ passes (λ ρ. some (flagged answer.now) ρ.head) (rule_at (meaning book.now) rule) }
+    ensures { result ≡ passes (λ ρ. some (flagged answer.now) ρ.head) (rule_at (B.meaning book.now) rule) }
 {
     let Some(size) = book.head_size(rule) else {
         return false;
@@ -100,7 +100,7 @@ fn has_true_head<B: Book>(book: &B, answer: &[bool], rule: u32) -> bool
 }
 
 fn is_constraint<B: Book>(book: &B, rule: u32) -> bool
-    ensures { result ≡ passes is_constraint (rule_at (meaning book.now) rule) }
+    ensures { result ≡ passes is_constraint (rule_at (B.meaning book.now) rule) }
 {
     match (book.kind(rule), book.head_size(rule)) {
         (Some(Kind::Plain), Some(size)) => size == 0,
@@ -110,7 +110,7 @@ fn is_constraint<B: Book>(book: &B, rule: u32) -> bool
 
 // Whether the atom stands positive in the rule's body.
 fn is_in_body<B: Book>(book: &B, answer: &[bool], marks: &[Mark], rule: u32, atom: u32) -> bool
-    ensures { result ≡ passes (in_body atom) (rule_at (meaning book.now) rule) }
+    ensures { result ≡ passes (in_body atom) (rule_at (B.meaning book.now) rule) }
 {
     first_unmet(book, answer, marks, Test::IsNot(atom), rule).is_some()
 }
@@ -123,13 +123,13 @@ pub(crate) fn can_require<B: Book>(
     rule: u32,
     atom: u32,
 ) -> bool
-    ensures { result ≡ passes (fits_required atom) (rule_at (meaning book.now) rule) }
+    ensures { result ≡ passes (fits_required atom) (rule_at (B.meaning book.now) rule) }
 {
     is_constraint(book, rule) && is_in_body(book, answer, marks, rule, atom)
 }
 
 fn body_fails<B: Book>(book: &B, answer: &[bool], marks: &[Mark], rule: u32) -> bool
-    ensures { result ≡ passes (body_fails (marking marks.now)) (rule_at (meaning book.now) rule) }
+    ensures { result ≡ passes (body_fails (marking marks.now)) (rule_at (B.meaning book.now) rule) }
 {
     first_unmet(book, answer, marks, Test::FailsNot, rule).is_some()
 }
@@ -142,13 +142,13 @@ pub(crate) fn is_unfailing<B: Book>(
     rule: u32,
     atom: u32,
 ) -> bool
-    ensures { result ≡ unfailing_at (meaning book.now) (marking marks.now) atom rule }
+    ensures { result ≡ unfailing_at (B.meaning book.now) (marking marks.now) atom rule }
 {
     is_in_head(book, rule, atom) && !body_fails(book, answer, marks, rule)
 }
 
 pub(crate) fn is_broken<B: Book>(book: &B, answer: &[bool], marks: &[Mark], rule: u32) -> bool
-    ensures { result ≡ broken_at (meaning book.now) (flagged answer.now) rule }
+    ensures { result ≡ broken_at (B.meaning book.now) (flagged answer.now) rule }
 {
     match book.kind(rule) {
         Some(Kind::Plain) => {

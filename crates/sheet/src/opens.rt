@@ -13,14 +13,14 @@ use book::book::Book;
 impl<'b, B: Book> Sheet<'b, B> {
     // Opens the sheet: the positive literals are the answer, and the atoms of the negative ones are assumed to be false.
     pub fn open(&mut self, literals: &[i32]) -> Result<(), SheetError>
-        ensures does { (result, view meaning self.new) ≡ leaving (λ R s. open_call R s literals.now) (view meaning self.old) }
-        ensures keeps { StaysReliable (view meaning self.old) (view meaning self.new) }
+        ensures does { (result, view B.meaning self.new) ≡ leaving (λ R s. open_call R s literals.now) (view B.meaning self.old) }
+        ensures keeps { StaysReliable (view B.meaning self.old) (view B.meaning self.new) }
     {
         self.begin(literals)
     }
 
     fn begin(&mut self, literals: &[i32]) -> Result<(), SheetError>
-        ensures { (result, view meaning self.new) ≡ leaving (λ R s. open_call R s literals.now) (view meaning self.old) }
+        ensures { (result, view B.meaning self.new) ≡ leaving (λ R s. open_call R s literals.now) (view B.meaning self.old) }
     {
         if self.opened {
             return Err(SheetError::WrongState);

@@ -44,7 +44,7 @@ fn put_marks(marks: &mut [Mark], entries: &[Proposal])
 }
 
 fn allows<B: Book>(book: &B, answer: &[bool], marks: &[Mark], proposal: Proposal) -> bool
-    ensures { result ≡ is_ok (verdict (meaning book.now) (flagged answer.now) (marking marks.now) proposal) }
+    ensures { result ≡ is_ok (verdict (B.meaning book.now) (flagged answer.now) (marking marks.now) proposal) }
 {
     judge(book, answer, marks, proposal).is_ok()
 }
@@ -73,7 +73,7 @@ pub(crate) fn redo<B: Book>(
     ensures within { result ≤ length entries.old }
     ensures tied { (a : ℕ) → marking marks.new a ≡ marked_all (assuming (flagged assumed.now)) (take result entries.new) a }
     ensures room { result + unmarked_in marks.new ≤ 1024 }
-    ensures kept { open_with answer.now assumed.now (take result entries.new) ≡ enter_all (meaning book.now) (open_with answer.now assumed.now (take from entries.old)) (drop (from + 1) entries.old) }
+    ensures kept { open_with answer.now assumed.now (take result entries.new) ≡ enter_all (B.meaning book.now) (open_with answer.now assumed.now (take from entries.old)) (drop (from + 1) entries.old) }
 {
     mark_again(marks, assumed, part(entries, 0, from));
     let mut to = from;

@@ -17,7 +17,7 @@ use std::alloc::{AllocError, Global};
 impl<'b, B: Book> Sheet<'b, B> {
     // Makes the call.
     pub(crate) fn perform(&mut self, call: Call<'_>) -> Result<Done, SheetError>
-        ensures { (result, view meaning self.new) ≡ leaving (λ R s. calling R s (call_of call.entry)) (view meaning self.old) }
+        ensures { (result, view B.meaning self.new) ≡ leaving (λ R s. calling R s (call_of call.entry)) (view B.meaning self.old) }
     {
         match call {
             Call::Open(literals) => {
@@ -40,8 +40,8 @@ pub fn replay<'b, B: Book>(
     book: &'b B,
     calls: &[Call<'_>],
 ) -> Result<Replayed<'b, B>, AllocError>
-    ensures right { IfOk result (λ o. Right (meaning book.now) (calls_of calls.now) o.answers.items (view meaning o.sheet).state) }
-    ensures same { IfOk result (λ o. (view meaning o.sheet).rules ≡ meaning book.now) }
+    ensures right { IfOk result (λ o. Right (B.meaning book.now) (calls_of calls.now) o.answers.items (view B.meaning o.sheet).state) }
+    ensures same { IfOk result (λ o. (view B.meaning o.sheet).rules ≡ B.meaning book.now) }
     ensures known { KnownRunsAreRight }
 {
     let mut sheet = Sheet::new(heap, book)?;

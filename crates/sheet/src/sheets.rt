@@ -24,8 +24,8 @@ fn places() -> usize
 impl<'b, B: Book> Sheet<'b, B> {
     // A sheet that is not open, without entries. All memory that it will ever need is asked for here.
     pub fn new(heap: Global, book: &'b B) -> Result<Sheet<'b, B>, AllocError>
-        ensures is { IfOk result (λ s. view meaning s ≡ record { rules = meaning book.now; state = blank }) }
-        ensures sound { IfOk result (λ s. SoundAndReliable (view meaning s)) }
+        ensures is { IfOk result (λ s. view B.meaning s ≡ record { rules = B.meaning book.now; state = blank }) }
+        ensures sound { IfOk result (λ s. SoundAndReliable (view B.meaning s)) }
     {
         let n = places();
         let answer = Vec::from_elem(heap, false, n)?;
@@ -44,7 +44,7 @@ impl<'b, B: Book> Sheet<'b, B> {
 
     // The mark of an atom of the book.
     pub fn mark(&self, atom: u32) -> Option<Mark>
-        ensures { result ≡ mark_of (view meaning self.now) atom }
+        ensures { result ≡ mark_of (view B.meaning self.now) atom }
     {
         if is_atom(self.book.atoms(), atom) {
             Some(mark_at(&self.marks, atom))
@@ -55,7 +55,7 @@ impl<'b, B: Book> Sheet<'b, B> {
 
     // The entry at a position, counted from 0.
     pub fn entry(&self, at: u32) -> Option<Proposal>
-        ensures { result ≡ entry_in (view meaning self.now) at }
+        ensures { result ≡ entry_in (view B.meaning self.now) at }
     {
         item(&self.entries, at as usize)
     }

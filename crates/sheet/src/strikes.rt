@@ -13,15 +13,15 @@ use book::book::Book;
 impl<'b, B: Book> Sheet<'b, B> {
     // Takes off the atom's entry, and each later one that is not allowed without it. Answers how many it took off.
     pub fn strike(&mut self, atom: u32) -> Result<u32, SheetError>
-        ensures does { (result, view meaning self.new) ≡ leaving (λ R s. strike_call R s atom) (view meaning self.old) }
-        ensures keeps { StaysReliable (view meaning self.old) (view meaning self.new) }
-        ensures counts { CountsTheStruck (view meaning self.old).rules (view meaning self.old).state atom }
+        ensures does { (result, view B.meaning self.new) ≡ leaving (λ R s. strike_call R s atom) (view B.meaning self.old) }
+        ensures keeps { StaysReliable (view B.meaning self.old) (view B.meaning self.new) }
+        ensures counts { CountsTheStruck (view B.meaning self.old).rules (view B.meaning self.old).state atom }
     {
         self.take_off(atom)
     }
 
     fn take_off(&mut self, atom: u32) -> Result<u32, SheetError>
-        ensures { (result, view meaning self.new) ≡ leaving (λ R s. strike_call R s atom) (view meaning self.old) }
+        ensures { (result, view B.meaning self.new) ≡ leaving (λ R s. strike_call R s atom) (view B.meaning self.old) }
     {
         if !self.opened {
             return Err(SheetError::WrongState);
