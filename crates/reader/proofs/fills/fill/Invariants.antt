@@ -7,7 +7,7 @@ abbrev pub invariant-loop-line : goal.invariant-loop-line
 invariant-loop-line l =
     let n = length l.text in
     let all = parts_in l.part (listed (said_from n l.text 10)) in
-    let left = said_from (n - l.-line) l.text l.at in
+    let left = said_from (n - l._line) l.text l.at in
     (is_ok left ≡ true)
     × (sets l.out l.to (parts_in l.part (listed left)) ≡ sets l.initial.out 0 all)
     × (l.to + length (parts_in l.part (listed left)) ≡ length all)

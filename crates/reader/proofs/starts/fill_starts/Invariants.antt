@@ -8,7 +8,7 @@ abbrev pub invariant-loop-line : goal.invariant-loop-line
 invariant-loop-line l =
     let n = length l.text in
     let all = listed (said_from n l.text 10) in
-    let left = said_from (n - l.-line) l.text l.at in
+    let left = said_from (n - l._line) l.text l.at in
     (is_ok left ≡ true)
     × (sets l.out l.to (starts_in l.start (listed left)) ≡ sets l.initial.out 0 (starts_in 0 all))
     × (l.to + length (starts_in l.start (listed left)) ≡ length (starts_in 0 all))
