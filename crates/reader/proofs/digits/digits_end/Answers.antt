@@ -6,8 +6,8 @@ use Rattle.reader.proofs.digits.digits_end.Goals as goal
 pub loop-i-preserved : goal.loop-i-preserved
 loop-i-preserved c = search (rules, prefix_len-drop_yes is_ascii_digit)
 
-pub returns-else-is-ascii-digit : goal.returns-else-is-ascii-digit
-returns-else-is-ascii-digit c = search (rules, prefix_len-drop_no is_ascii_digit)
+pub returns-else-is_ascii_digit : goal.returns-else-is_ascii_digit
+returns-else-is_ascii_digit c = search (rules, prefix_len-drop_no is_ascii_digit)
 
 pub returns-after-loop-i : goal.returns-after-loop-i
 returns-after-loop-i c = search (rules, prefix_len-drop_all is_ascii_digit)

@@ -6,16 +6,16 @@ use Rattle.reader.specs.Fields.{read_on}
 use Rattle.reader.proofs.Numerals.{digit_now, ten_step, ten_room}
 use Rattle.reader.proofs.digits.digits_value.Goals as goal
 
-pub overflow-mul-value : goal.overflow-mul-value
-overflow-mul-value c = record { fits = omega (arith, ten_room _ _ 8 c.loop-d.invariant.1 (omega (arith, c.requires.0))) }
+pub overflow_mul-value : goal.overflow_mul-value
+overflow_mul-value c = omega (arith, ten_room _ _ 8 c.loop-d.invariant.1 (omega (arith, c.requires.0)))
 
-pub overflow-sub-value : goal.overflow-sub-value
-overflow-sub-value c = (digit_now _ _ c.loop-d-test.true c.loop-d.invariant.2).1
+pub overflow_sub-value : goal.overflow_sub-value
+overflow_sub-value c = (digit_now _ _ c.loop-d-test.true c.loop-d.invariant.2).1
 
-pub overflow-add-value : goal.overflow-add-value
-overflow-add-value c =
+pub overflow_add-value : goal.overflow_add-value
+overflow_add-value c =
     let h = digit_now c.args.digits.now c.loop-d.d-index c.loop-d-test.true c.loop-d.invariant.2 in
-    record { fits = omega (arith, ten_room c.loop-d.value c.loop-d.d-index 8 c.loop-d.invariant.1 (omega (arith, c.requires.0))) }
+    omega (arith, ten_room c.loop-d.value c.loop-d.d-index 8 c.loop-d.invariant.1 (omega (arith, c.requires.0)))
 
 pub loop-d-preserved : goal.loop-d-preserved
 loop-d-preserved c =

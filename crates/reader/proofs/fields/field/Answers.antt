@@ -15,7 +15,7 @@ judge-requires c = search (rules, front_all is_ascii_digit)
 
 pub returns : goal.returns
 returns c = record {
-  field = c.judge.ensures.field ∙ judged_here c.args.after c.args.text.now c.args.at _ _ _ c.is-minus.ensures c.digits-start-from.ensures.start c.digits-end-end.ensures (omega arith);
-  within = IfOk-weaker c.judge.result (λ f. f.next ≡ c.digits-end-end.result + 1) (λ f. f.next ≤ length c.args.text.now) (λ f e. omega arith) c.judge.ensures.next;
-  beyond = IfOk-weaker c.judge.result (λ f. f.next ≡ c.digits-end-end.result + 1) (λ f. c.args.at < f.next) (λ f e. omega arith) c.judge.ensures.next;
+  field = c.judge.ensures.field ∙ judged_here c.args.after c.args.text.now c.args.at _ _ _ c.is_minus.ensures c.digits_start-from.ensures.start c.digits_end-end.ensures (omega arith);
+  within = IfOk-weaker c.judge.result (λ f. f.next ≡ c.digits_end-end.result + 1) (λ f. f.next ≤ length c.args.text.now) (λ f e. omega arith) c.judge.ensures.next;
+  beyond = IfOk-weaker c.judge.result (λ f. f.next ≡ c.digits_end-end.result + 1) (λ f. c.args.at < f.next) (λ f e. omega arith) c.judge.ensures.next;
 }

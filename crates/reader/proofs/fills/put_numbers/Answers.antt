@@ -7,8 +7,8 @@ use Rattle.reader.proofs.fills.put_numbers.Goals as goal
 pub loop-i-init : goal.loop-i-init
 loop-i-init c = (simp sub-zero c.requires.0.reads, simp (sub-zero, add-zero), omega arith)
 
-pub returns-in-err-number : goal.returns-in-err-number
-returns-in-err-number c = record { end = grind (arith, row_step); list = grind (arith, row_step) }
+pub returns-in_err-number : goal.returns-in_err-number
+returns-in_err-number c = record { end = grind (arith, row_step); list = grind (arith, row_step) }
 
 pub loop-i-preserved : goal.loop-i-preserved
 loop-i-preserved c = (grind (arith, row_step, ok_before), grind (arith, row_step, ok_before, values_before, to_z-of_z, add-one, add-suc), search rules)

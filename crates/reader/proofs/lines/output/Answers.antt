@@ -3,30 +3,30 @@ use Rattle.reader.specs.Lines.{output_at}
 use Rattle.reader.specs.declared.pieces.Items.TheVariants.{Literals}
 use Rattle.reader.proofs.lines.output.Goals as goal
 
-pub returns-in-err-size : goal.returns-in-err-size
+pub returns-in_err-size : goal.returns-in_err-size
 unfolding output_at
-returns-in-err-size c = search rules
+returns-in_err-size c = search rules
 
-pub returns-in-err-next : goal.returns-in-err-next
+pub returns-in_err-next : goal.returns-in_err-next
 unfolding output_at
-returns-in-err-next c = search rules
+returns-in_err-next c = search rules
 
-pub returns-in-err-span : goal.returns-in-err-span
+pub returns-in_err-span : goal.returns-in_err-span
 unfolding output_at
-returns-in-err-span c = search rules
+returns-in_err-span c = search rules
 
 pub returns : goal.returns
 unfolding output_at
 returns c = record {
-  line = simp (c.numbers.ensures.values Literals, c.part.ensures.part, sym c.in-ok-size.ensures.counted, sym c.in-ok-next.ensures.name, sym c.in-ok-span.ensures.span);
+  line = simp (c.numbers.ensures.values Literals, c.part.ensures.part, sym c.in_ok-size.ensures.counted, sym c.in_ok-next.ensures.name, sym c.in_ok-span.ensures.span);
   sound =
-      let name = ap length c.part.ensures.part ∙ length-take c.in-ok-size.size.count (drop c.in-ok-size.size.next c.args.text.now) in
-      let rest = length-drop c.in-ok-size.size.next c.args.text.now in (
-        c.in-ok-span.ensures.within,
+      let name = ap length c.part.ensures.part ∙ length-take c.in_ok-size.size.count (drop c.in_ok-size.size.next c.args.text.now) in
+      let rest = length-drop c.in_ok-size.size.next c.args.text.now in (
+        c.in_ok-span.ensures.within,
         (
-          omega (arith, c.in-ok-size.ensures.within),
+          omega (arith, c.in_ok-size.ensures.within),
           omega (arith, name, rest),
-          record { reads = c.numbers.ensures.reads Literals ∙ c.in-ok-span.ensures.reads; short = omega (arith, c.numbers.ensures.short) },
+          record { reads = c.numbers.ensures.reads Literals ∙ c.in_ok-span.ensures.reads; short = omega (arith, c.numbers.ensures.short) },
         ),
       );
 }

@@ -12,14 +12,14 @@ returns-then-literals-ne1 c =
     let count = numbers_count Literals c.args.literals c.requires in
     ap Ok (not_sole _ (λ e. c.if-literals-ne1.true (sym count ∙ e)))
 
-pub returns-in-err-number : goal.returns-in-err-number
-returns-in-err-number c =
+pub returns-in_err-number : goal.returns-in_err-number
+returns-in_err-number c =
     let bytes = c.args.literals.bytes.now in
-    absurd (row_one_reads Literals bytes _ c.in-err-number.ensures.item (ap (λ n. is_ok (row_at Literals n bytes 0)) (sym c.if-literals-ne1.false) ∙ c.requires.reads))
+    absurd (row_one_reads Literals bytes _ c.in_err-number.ensures.item (ap (λ n. is_ok (row_at Literals n bytes 0)) (sym c.if-literals-ne1.false) ∙ c.requires.reads))
 
 pub returns : goal.returns
 returns c =
     let bytes = c.args.literals.bytes.now in
-    let f : SFits w32 c.in-ok-number.number.value = search rules in
-    let atom = simp to_z-of_z at c.as-atom.ensures in
-    ap Ok (atom ∙ ap sole_atom (row_one Literals bytes _ c.in-ok-number.ensures.item) ∙ ap (λ n. sole_atom (row_values (row_at Literals n bytes 0))) (sym c.if-literals-ne1.false))
+    let f : SFits w32 c.in_ok-number.number.value = search rules in
+    let atom = simp to_z-of_z at c.as_atom.ensures in
+    ap Ok (atom ∙ ap sole_atom (row_one Literals bytes _ c.in_ok-number.ensures.item) ∙ ap (λ n. sole_atom (row_values (row_at Literals n bytes 0))) (sym c.if-literals-ne1.false))

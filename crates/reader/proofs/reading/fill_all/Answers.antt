@@ -12,15 +12,15 @@ fill-requires c =
     let room = roomy c.args.counts _ _ _ _ _ c.requires.1 in
     (v.long, (v.short, (ap is_ok v.saying, omega (arith, ap (λ r. length (parts_in Integers (listed r))) v.saying, v.integers, room.for_integers))))
 
-pub fill-starts-requires : goal.fill-starts-requires
-fill-starts-requires c =
+pub fill_starts-requires : goal.fill_starts-requires
+fill_starts-requires c =
     let v = surveyed c.args.text.now c.args.counts c.requires.0 in
     let room = roomy c.args.counts _ _ _ _ _ c.requires.1 in
     let integers = ap (λ r. length (parts_in Integers (listed r))) v.saying in
     ((v.long, (v.short, ap is_ok v.saying)), (omega (arith, ap (λ r. length (starts_in 0 (listed r))) v.saying, v.starts, room.for_starts), omega (arith, integers, v.integers, v.bounded)))
 
-pub fill-names-requires : goal.fill-names-requires
-fill-names-requires c =
+pub fill_names-requires : goal.fill_names-requires
+fill_names-requires c =
     let v = surveyed c.args.text.now c.args.counts c.requires.0 in
     (v.long, (v.short, ap is_ok v.saying))
 
@@ -34,16 +34,16 @@ pub returns : goal.returns
 unfolding integers_after starts_after assumed_after names_after
 returns c =
     let v = surveyed c.args.text.now c.args.counts c.requires.0 in
-    let places = c.clear-front.ensures ∙ ap (λ n. unnamed n c.args.places.now) v.atoms in
-    let lengths = c.clear-front-2.ensures ∙ ap (λ n. unnamed n c.args.lengths.now) v.atoms in
+    let places = c.clear_front.ensures ∙ ap (λ n. unnamed n c.args.places.now) v.atoms in
+    let lengths = c.clear_front-2.ensures ∙ ap (λ n. unnamed n c.args.lengths.now) v.atoms in
     let ss = listed (statements_of c.args.text.now) in
-    let names = ap (λ xs. with_names (both xs c.clear-front-2.new.list) ss) places ∙ ap (λ xs. with_names (both (unnamed (with_all nothing ss).atoms c.args.places.now) xs) ss) lengths in
-    let all = ap (λ r. with_names (both c.clear-front.new.list c.clear-front-2.new.list) (listed r)) v.saying ∙ names in
+    let names = ap (λ xs. with_names (both xs c.clear_front-2.new.list) ss) places ∙ ap (λ xs. with_names (both (unnamed (with_all nothing ss).atoms c.args.places.now) xs) ss) lengths in
+    let all = ap (λ r. with_names (both c.clear_front.new.list c.clear_front-2.new.list) (listed r)) v.saying ∙ names in
     record {
       done = refl;
       integers = c.fill.ensures.list ∙ ap (λ r. integers_after (listed r) c.args.integers.now) v.saying;
-      starts = c.fill-starts.ensures.list ∙ ap (λ r. starts_after (listed r) c.args.starts.now) v.saying;
-      places = c.fill-names.ensures.starts ∙ ap (λ (N : NameLists). N.starts) all;
-      lengths = c.fill-names.ensures.lengths ∙ ap (λ (N : NameLists). N.lengths) all;
+      starts = c.fill_starts.ensures.list ∙ ap (λ r. starts_after (listed r) c.args.starts.now) v.saying;
+      places = c.fill_names.ensures.starts ∙ ap (λ (N : NameLists). N.starts) all;
+      lengths = c.fill_names.ensures.lengths ∙ ap (λ (N : NameLists). N.lengths) all;
       assumed = c.fill-2.ensures.list ∙ ap (λ r. assumed_after (listed r) c.args.assumed.now) v.saying;
     }

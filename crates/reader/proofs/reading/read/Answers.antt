@@ -7,13 +7,13 @@ use Rattle.reader.proofs.Programs.{reads_exactly_programs}
 use Rattle.reader.proofs.Together.{answer_is}
 use Rattle.reader.proofs.reading.read.Goals as goal
 
-pub returns-in-err-counts : goal.returns-in-err-counts
-returns-in-err-counts c =
+pub returns-in_err-counts : goal.returns-in_err-counts
+returns-in_err-counts c =
     let text = c.args.text.now in
-    let x = c.in-err-counts.field-0.0 in
-    let r = c.from-residual.result in
+    let x = c.in_err-counts.field-0.0 in
+    let r = c.from_residual.result in
     let refused : r ≡ Err x = search rules in
-    let answer = refused ∙ answer_is text _ (Err x) c.in-err-counts.ensures in
+    let answer = refused ∙ answer_is text _ (Err x) c.in_err-counts.ensures in
     let integers = as_before r x _ c.args.integers.now refused in
     let starts = as_before r x _ c.args.starts.now refused in
     let places = as_before r x _ c.args.places.now refused in
@@ -31,10 +31,10 @@ returns-in-err-counts c =
       book = found_book text c.args.integers.now c.args.starts.now c.args.places.now c.args.lengths.now (length c.args.assumed.now) r answer _ _ _ _ integers starts places lengths;
     }
 
-pub returns-then-not-has-room : goal.returns-then-not-has-room
-returns-then-not-has-room c =
+pub returns-then-not-has_room : goal.returns-then-not-has_room
+returns-then-not-has_room c =
     let text = c.args.text.now in
-    let answer = ap (λ b. cond b (Ok c.in-ok-counts.counts) (Err TooShort)) c.if-not-has-room.ensures ∙ answer_is text _ (Ok c.in-ok-counts.counts) c.in-ok-counts.ensures in
+    let answer = ap (λ b. cond b (Ok c.in_ok-counts.counts) (Err TooShort)) c.if-not-has_room.ensures ∙ answer_is text _ (Ok c.in_ok-counts.counts) c.in_ok-counts.ensures in
     record {
       answer = answer;
       integers = refl;
@@ -51,16 +51,16 @@ returns-then-not-has-room c =
 pub returns : goal.returns
 returns c =
     let text = c.args.text.now in
-    let answer = ap (λ b. cond b (Ok c.in-ok-counts.counts) (Err TooShort)) c.if-not-has-room.ensures ∙ answer_is text _ (Ok c.in-ok-counts.counts) c.in-ok-counts.ensures in
+    let answer = ap (λ b. cond b (Ok c.in_ok-counts.counts) (Err TooShort)) c.if-not-has_room.ensures ∙ answer_is text _ (Ok c.in_ok-counts.counts) c.in_ok-counts.ensures in
     record {
       answer = answer;
-      integers = c.fill-all.ensures.integers;
-      starts = c.fill-all.ensures.starts;
-      places = c.fill-all.ensures.places;
-      lengths = c.fill-all.ensures.lengths;
-      assumed = c.fill-all.ensures.assumed;
+      integers = c.fill_all.ensures.integers;
+      starts = c.fill_all.ensures.starts;
+      places = c.fill_all.ensures.places;
+      lengths = c.fill_all.ensures.lengths;
+      assumed = c.fill_all.ensures.assumed;
       verdict = every_text_has_its_verdict text;
       programs = reads_exactly_programs text;
       back = written_reads_back text;
-      book = found_book text c.args.integers.now c.args.starts.now c.args.places.now c.args.lengths.now (length c.args.assumed.now) (Ok c.in-ok-counts.counts) answer _ _ _ _ c.fill-all.ensures.integers c.fill-all.ensures.starts c.fill-all.ensures.places c.fill-all.ensures.lengths;
+      book = found_book text c.args.integers.now c.args.starts.now c.args.places.now c.args.lengths.now (length c.args.assumed.now) (Ok c.in_ok-counts.counts) answer _ _ _ _ c.fill_all.ensures.integers c.fill_all.ensures.starts c.fill_all.ensures.places c.fill_all.ensures.lengths;
     }
