@@ -1,5 +1,5 @@
 -- A row that is read from a part of the text holds the same numbers as in the text.
-use Rattle.std.proofs.Common.{◌≡◌, ℕ, zero, suc, ◌+◌, ◌-◌, Bool, true, false, cond, ◌&&◌, eqb, ltb, List, ◌∷◌, length, get_or, take, drop, ℤ, is_ok, Some, Ok, Err, Result, refl, ap, ◌∙◌, add-zero, arith, length-drop, get_or-drop, drop-drop}
+use Rattle.std.proofs.Common.{◌≡◌, ℕ, zero, suc, ◌+◌, Bool, true, false, cond, ◌&&◌, eqb, ltb, List, ◌∷◌, length, get_or, take, drop, ℤ, is_ok, Some, Ok, Err, Result, refl, ap, ◌∙◌, add-zero, arith, length-drop, get_or-drop, drop-drop}
 use Rattle.std.specs.Char.{is_ascii_digit}
 use Rattle.std.specs.List.{prefix_len}
 use Rattle.std.specs.Option.{option_map}

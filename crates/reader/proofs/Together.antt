@@ -1,16 +1,17 @@
 -- What statements hold together, part by part and counted.
-use Rattle.std.proofs.Common.{◌≡◌, ℕ, ◌+◌, ◌≤◌, max, Bool, true, leb, List, [], ◌∷◌, ◌++◌, length, Ok, Err, Result, sym, refl, ap, ◌∙◌, append_assoc, arith, length-append}
+use Rattle.std.proofs.Common.{ℤ, ◌≡◌, ℕ, ◌+◌, ◌≤◌, max, Bool, true, leb, List, [], ◌∷◌, ◌++◌, length, Ok, Err, Result, sym, refl, ap, ◌∙◌, append_assoc, arith, length-append}
 use native.Mathlib.Nat.{max-zero}
 use Rattle.std.proofs.lemmas.Bool.{and_parts, and_from, le-leb, leb-true}
+use lib.Seq.{sets}
 use Rattle.book.specs.Rules.{Rule}
 use Rattle.book.specs.Encoding.{encode, encode_rule, starts_from}
 use Rattle.aspif.specs.declared.error.TextError.{TextError}
 use Rattle.reader.specs.Fields.{and_then}
 use Rattle.reader.specs.Statements.{Stmt, rules_in, assumed_in}
 use Rattle.reader.specs.Scan.{nothing, with_one, with_all, keeps, counts_of}
-use Rattle.reader.specs.Fill.{parts_in, starts_in}
+use Rattle.reader.specs.Fill.{both, with_names, parts_in, starts_in}
 use Rattle.reader.specs.Program.{rules_of, assumed_of, atoms_of, sizes_of}
-use Rattle.reader.specs.Read.{statements_of, room_tested, read_answer}
+use Rattle.reader.specs.Read.{statements_of, room_tested, read_answer, unnamed, integers_after, starts_after, names_after}
 use Rattle.reader.specs.declared.pieces.Counts.{Counts}
 use Rattle.reader.specs.declared.pieces.Part.TheVariants.{Integers, Assumed}
 use Rattle.reader.proofs.Starting.{starts_length}
@@ -81,7 +82,25 @@ answer_by room (Err e) = refl
 
 pub answer_is : (text : List ℕ) (room : Counts → Bool) (r : Result Counts TextError) → r ≡ counts_of nothing (statements_of text) → and_then r (room_tested room) ≡ read_answer text room
 unfolding read_answer
-answer_is text room r e = ap (λ q. and_then q (room_tested room)) e ∙ answer_by room (statements_of text)
+answer_is text room r e = ap (λ q. and_then q (room_tested room)) e
+
+pub answer_together : (text : List ℕ) (room : Counts → Bool) → read_answer text room ≡ and_then (statements_of text) (λ ss. room_tested room (sizes_of ss))
+unfolding read_answer
+answer_together text room = answer_by room (statements_of text)
+
+-- What is left in the lists, of all statements together.
+
+pub integers_together : (ss : List Stmt) (xs : List ℤ) → integers_after ss xs ≡ sets xs 0 (encode (rules_of ss))
+unfolding integers_after
+integers_together ss xs = ap (sets xs 0) (integers_are ss)
+
+pub starts_together : (ss : List Stmt) (xs : List ℕ) → starts_after ss xs ≡ sets xs 0 (starts_from 0 (rules_of ss))
+unfolding starts_after
+starts_together ss xs = ap (sets xs 0) (starts_are 0 ss)
+
+pub names_together : (ss : List Stmt) (places lengths : List ℕ) → names_after ss places lengths ≡ with_names (both (unnamed (atoms_of ss) places) (unnamed (atoms_of ss) lengths)) ss
+unfolding names_after
+names_together ss places lengths = ap (λ n. with_names (both (unnamed n places) (unnamed n lengths)) ss) (counted_together ss).atoms
 
 -- The limits hold of all statements together exactly where they hold of what was counted.
 

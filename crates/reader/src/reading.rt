@@ -55,8 +55,8 @@ fn fill_all(
     lengths: &mut [u32],
     assumed: &mut [i32],
 ) -> Result<(), TextError>
-    requires text_value { counts_of nothing (statements_of text.now) ≡ Ok counts }
-    requires assumed_value { has_room counts (length integers.old) (length starts.old) (length places.old) (length lengths.old) (length assumed.old) ≡ true }
+    requires counted { counts_of nothing (statements_of text.now) ≡ Ok counts }
+    requires room { has_room counts (length integers.old) (length starts.old) (length places.old) (length lengths.old) (length assumed.old) ≡ true }
     ensures done { result ≡ Ok tt }
     ensures integers { integers.new ≡ integers_after (listed (statements_of text.now)) integers.old }
     ensures starts { starts.new ≡ starts_after (listed (statements_of text.now)) starts.old }

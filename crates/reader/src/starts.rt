@@ -70,8 +70,8 @@ fn put_line_start(
 
 // The starts of all rules, from the front of a list on; answers how many there are.
 pub(crate) fn fill_starts(text: &[u8], out: &mut [u32]) -> Result<usize, TextError>
-    requires in_bounds { (10 ≤ length text.now) × ((length text.now ≤ 65536) × (is_ok (said_from (length text.now) text.now 10) ≡ true)) }
-    requires text_in_bounds { (length (starts_in 0 (listed (said_from (length text.now) text.now 10))) ≤ length out.old) × (length (parts_in Integers (listed (said_from (length text.now) text.now 10))) ≤ 16384) }
+    requires text { (10 ≤ length text.now) × ((length text.now ≤ 65536) × (is_ok (said_from (length text.now) text.now 10) ≡ true)) }
+    requires room { (length (starts_in 0 (listed (said_from (length text.now) text.now 10))) ≤ length out.old) × (length (parts_in Integers (listed (said_from (length text.now) text.now 10))) ≤ 16384) }
     ensures end { result ≡ Ok (length (starts_in 0 (listed (said_from (length text.now) text.now 10)))) }
     ensures list { out.new ≡ sets out.old 0 (starts_in 0 (listed (said_from (length text.now) text.now 10))) }
 {

@@ -8,32 +8,32 @@ use Rattle.reader.proofs.reading.fill_all.Goals as goal
 
 pub fill-requires : goal.fill-requires
 fill-requires c =
-    let v = surveyed c.args.text.now c.args.counts c.requires.0 in
-    let room = roomy c.args.counts _ _ _ _ _ c.requires.1 in
+    let v = surveyed c.args.text.now c.args.counts c.requires.counted in
+    let room = roomy c.args.counts _ _ _ _ _ c.requires.room in
     (v.long, (v.short, (ap is_ok v.saying, omega (arith, ap (λ r. length (parts_in Integers (listed r))) v.saying, v.integers, room.for_integers))))
 
 pub fill_starts-requires : goal.fill_starts-requires
 fill_starts-requires c =
-    let v = surveyed c.args.text.now c.args.counts c.requires.0 in
-    let room = roomy c.args.counts _ _ _ _ _ c.requires.1 in
+    let v = surveyed c.args.text.now c.args.counts c.requires.counted in
+    let room = roomy c.args.counts _ _ _ _ _ c.requires.room in
     let integers = ap (λ r. length (parts_in Integers (listed r))) v.saying in
-    ((v.long, (v.short, ap is_ok v.saying)), (omega (arith, ap (λ r. length (starts_in 0 (listed r))) v.saying, v.starts, room.for_starts), omega (arith, integers, v.integers, v.bounded)))
+    record { text = (v.long, (v.short, ap is_ok v.saying)); room = (omega (arith, ap (λ r. length (starts_in 0 (listed r))) v.saying, v.starts, room.for_starts), omega (arith, integers, v.integers, v.bounded)) }
 
 pub fill_names-requires : goal.fill_names-requires
 fill_names-requires c =
-    let v = surveyed c.args.text.now c.args.counts c.requires.0 in
+    let v = surveyed c.args.text.now c.args.counts c.requires.counted in
     (v.long, (v.short, ap is_ok v.saying))
 
 pub fill-requires-2 : goal.fill-requires-2
 fill-requires-2 c =
-    let v = surveyed c.args.text.now c.args.counts c.requires.0 in
-    let room = roomy c.args.counts _ _ _ _ _ c.requires.1 in
+    let v = surveyed c.args.text.now c.args.counts c.requires.counted in
+    let room = roomy c.args.counts _ _ _ _ _ c.requires.room in
     (v.long, (v.short, (ap is_ok v.saying, omega (arith, ap (λ r. length (parts_in Assumed (listed r))) v.saying, v.assumed, room.for_assumed))))
 
 pub returns : goal.returns
 unfolding integers_after starts_after assumed_after names_after
 returns c =
-    let v = surveyed c.args.text.now c.args.counts c.requires.0 in
+    let v = surveyed c.args.text.now c.args.counts c.requires.counted in
     let places = c.clear_front.ensures ∙ ap (λ n. unnamed n c.args.places.now) v.atoms in
     let lengths = c.clear_front-2.ensures ∙ ap (λ n. unnamed n c.args.lengths.now) v.atoms in
     let ss = listed (statements_of c.args.text.now) in

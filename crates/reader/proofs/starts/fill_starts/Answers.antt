@@ -17,7 +17,7 @@ put_line_start-requires c =
     let step = said_step n i text at c.loop-line-test.true in
     let fits = starts_fit c.loop-line.to c.loop-line.start (said_from (n - (i + 1)) text) (line_at text at) (said_from (n - i) text at) step c.loop-line.invariant.0 in (
       c.loop-line.invariant.4,
-      (c.requires.0.1.0, (omega (arith, fits.starts, c.loop-line.invariant.2, c.requires.1.0, c.loop-line.auto.out), omega (arith, fits.integers, c.loop-line.invariant.3, c.requires.1.1))),
+      (c.requires.text.1.0, (omega (arith, fits.starts, c.loop-line.invariant.2, c.requires.room.0, c.loop-line.auto.out), omega (arith, fits.integers, c.loop-line.invariant.3, c.requires.room.1))),
     )
 
 pub returns-in_err-begun : goal.returns-in_err-begun

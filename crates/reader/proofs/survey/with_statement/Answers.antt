@@ -4,16 +4,16 @@ use Rattle.reader.specs.Seen.{meant, Sound}
 use Rattle.reader.proofs.Tallies.{assumption_adds, rule_adds}
 use Rattle.reader.proofs.survey.with_statement.Goals as goal
 
-pub returns-in-ok-bottom : goal.returns-in-ok-bottom
-returns-in-ok-bottom c =
+pub returns-in_ok-bottom-in-Rule : goal.returns-in_ok-bottom-in-Rule
+returns-in_ok-bottom-in-Rule c =
     let C = c.args.counts in
     let sound = subst Sound c.in-Rule.is c.requires.0 in
-    ap Ok (rule_adds C c.in-Rule.kind c.in-Rule.heads c.in-Rule.body _ _ _ _ sound.0 sound.1 c.in-ok-top.ensures c.in-ok-bottom.ensures c.max.ensures c.max-in-Rule.ensures)
+    ap Ok (rule_adds C c.in-Rule.kind c.in-Rule.heads c.in-Rule.body _ _ _ _ sound.0 sound.1 c.in_ok-top-in-Rule.ensures c.in_ok-bottom-in-Rule.ensures c.max.ensures c.max-in-Rule.ensures)
     ∙ ap (λ s. Ok (with_one C (meant s))) (sym c.in-Rule.is)
 
-pub returns-in-ok-top-3 : goal.returns-in-ok-top-3
-returns-in-ok-top-3 c =
+pub returns-in_ok-top-in-Assumption : goal.returns-in_ok-top-in-Assumption
+returns-in_ok-top-in-Assumption c =
     let C = c.args.counts in
     let sound = subst Sound c.in-Assumption.is c.requires.0 in
-    ap Ok (assumption_adds C c.in-Assumption.literals _ _ sound c.in-ok-top-3.ensures c.max-in-Assumption.ensures)
+    ap Ok (assumption_adds C c.in-Assumption.literals _ _ sound c.in_ok-top-in-Assumption.ensures c.max-in-Assumption.ensures)
     ∙ ap (λ s. Ok (with_one C (meant s))) (sym c.in-Assumption.is)
