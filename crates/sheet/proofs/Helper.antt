@@ -8,7 +8,6 @@ use Rattle.sheet.specs.declared.proposal.Proposal.{Proposal}
 use Rattle.sheet.specs.Marks.{Marks, is_unmarked, marked}
 use Rattle.sheet.specs.Allowed.{Allowed, Grounded}
 use Rattle.sheet.specs.States.{State, marks, with_entries, After}
-use Rattle.sheet.specs.Complete.{unmarked}
 use Rattle.sheet.specs.Runs.{Enter, answered, run}
 use Rattle.sheet.specs.Law.{EnteredOrMarked}
 use Rattle.sheet.proofs.Agreement.{Part, Agrees, is_unmarked_lem, part_both, part_absorbs, agrees_marked, grounds_side}

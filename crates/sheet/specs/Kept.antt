@@ -1,5 +1,5 @@
 -- Sets and marks as a sheet keeps them: in lists, an atom's item at the place of its number.
-use Rattle.std.specs.Prelude.{ℕ, suc, Bool, true, false, cond, not, List, [], ◌∷◌, set, ℤ, pos, negsuc, slice_index_or, slice_set}
+use Rattle.std.specs.Prelude.{ℕ, suc, Bool, true, false, cond, not, List, [], ◌∷◌, ℤ, pos, negsuc, slice_index_or, slice_set}
 use Rattle.sheet.specs.declared.mark.Mark.{Mark}
 use Rattle.sheet.specs.declared.mark.Mark.TheVariants.{Unmarked, False}
 use Rattle.sheet.specs.declared.proposal.Proposal.{Proposal}

@@ -1,6 +1,7 @@
 -- The rules and the state that a sheet stands for.
 use Rattle.std.specs.Prelude.{vec_items, Result}
 use Rattle.book.specs.Rules.{Rules}
+use Rattle.book.specs.declared.book.Book.{Ghosts}
 use Rattle.sheet.specs.declared.sheet.Sheet.{Sheet}
 use Rattle.sheet.specs.States.{State, After}
 use Rattle.sheet.specs.Kept.{flagged}
@@ -11,7 +12,7 @@ pub record View : Type 0 where
   pub state : State
 
 -- given what a book of its kind means
-abbrev pub view : {B : Type 0} → (B → Rules) → Sheet B → View
+abbrev pub view : {B : Type 0} {ghosts : Ghosts B} → (B → Rules) → Sheet B ghosts → View
 view meaning s = record {
   rules = meaning s.book.now;
   state = record { opened = s.opened; answer = flagged (vec_items s.answer); assumed = flagged (vec_items s.assumed); entries = vec_items s.entries };

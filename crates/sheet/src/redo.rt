@@ -67,9 +67,9 @@ pub(crate) fn redo<B: Book>(
     entries: &mut [Proposal],
     from: usize,
 ) -> usize
-    requires from_in_bounds { from < length entries.old }
-    requires marks_len { (length marks.old ≡ 1025) × (length assumed.now ≡ 1025) }
-    requires by_index { (((a : ℕ) → marking marks.old a ≡ marked_all (assuming (flagged assumed.now)) entries.old a)) × (length entries.old + unmarked_in marks.old ≤ 1024) }
+    requires inside { from < length entries.old }
+    requires sized { (length marks.old ≡ 1025) × (length assumed.now ≡ 1025) }
+    requires tied { (((a : ℕ) → marking marks.old a ≡ marked_all (assuming (flagged assumed.now)) entries.old a)) × (length entries.old + unmarked_in marks.old ≤ 1024) }
     ensures within { result ≤ length entries.old }
     ensures tied { (a : ℕ) → marking marks.new a ≡ marked_all (assuming (flagged assumed.now)) (take result entries.new) a }
     ensures room { result + unmarked_in marks.new ≤ 1024 }

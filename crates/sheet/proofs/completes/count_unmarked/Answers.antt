@@ -9,6 +9,6 @@ pub loop-i-preserved : goal.loop-i-preserved
 loop-i-preserved c =
     let l = c.loop-i in
     let free = λ (a : ℕ). is_unmarked (marking c.args.marks.now a) in (
-      ap (λ n. n + c.one-if-unmarked-count.result) l.invariant.0 ∙ ap (λ n. how_many free l.i + n) c.one-if-unmarked-count.ensures.is ∙ count_more free l.i,
-      omega (arith, l.invariant.1, c.one-if-unmarked-count.ensures.small),
+      ap (λ n. n + c.one_if_unmarked-count.result) l.invariant.0 ∙ ap (λ n. how_many free l.i + n) c.one_if_unmarked-count.ensures.is ∙ count_more free l.i,
+      omega (arith, l.invariant.1, c.one_if_unmarked-count.ensures.small),
     )

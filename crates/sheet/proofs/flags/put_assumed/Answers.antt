@@ -7,9 +7,9 @@ pub loop-i-preserved : goal.loop-i-preserved
 loop-i-preserved c =
     let l = c.loop-i in
     let flags = c.args.assumed.now in
-    let m = c.mark-assumed.result in
+    let m = c.mark_assumed.result in
     take_more_set l.marks l.i m (omega (arith, c.requires)) ∙ ap (λ ms. ms ++ (m ∷ [])) l.invariant
-    ∙ ap (λ x. map mark_assumed (take l.i flags) ++ (x ∷ [])) c.mark-assumed.ensures ∙ sym (map_more mark_assumed flags l.i false (omega arith))
+    ∙ ap (λ x. map mark_assumed (take l.i flags) ++ (x ∷ [])) c.mark_assumed.ensures ∙ sym (map_more mark_assumed flags l.i false (omega arith))
 
 pub returns : goal.returns
 returns c =

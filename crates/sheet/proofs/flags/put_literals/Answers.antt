@@ -14,7 +14,7 @@ loop-literal-preserved c =
     let zs = c.args.literals.now in
     let i = l.literal-index in
     let f : SFits w32 (get_or zs i (pos 0)) = search rules in
-    let put = simp to_z-of_z at c.put-literal.ensures in (
+    let put = simp to_z-of_z at c.put_literal.ensures in (
       ap (λ flags. with_positives flags (drop (i + 1) zs)) put.answer ∙ positives_more l.answer (get_or zs i (pos 0)) (drop (i + 1) zs) ∙ sym (at_drop_more (with_positives l.answer) zs i (pos 0) (omega arith)) ∙ l.invariant.0,
       ap (λ flags. with_negatives flags (drop (i + 1) zs)) put.assumed ∙ negatives_more l.assumed (get_or zs i (pos 0)) (drop (i + 1) zs) ∙ sym (at_drop_more (with_negatives l.assumed) zs i (pos 0) (omega arith)) ∙ l.invariant.1,
     )

@@ -3,14 +3,14 @@ use Rattle.base.proofs.Search.{least_next, least_found, least_end}
 use Rattle.sheet.specs.Verdicts.{first_unfailing}
 use Rattle.sheet.proofs.judge.first_unfailing.Goals as goal
 
-pub returns-then-is-unfailing : goal.returns-then-is-unfailing
+pub returns-then-is_unfailing : goal.returns-then-is_unfailing
 unfolding first_unfailing
-returns-then-is-unfailing g c =
+returns-then-is_unfailing g c =
     let n = length (g.B.Book.meaning c.args.book.now).rules in
-    least_found _ c.loop-rule.rule n (omega (arith, c.rules-rule-end.ensures)) c.if-is-unfailing.ensures c.loop-rule.invariant
+    least_found _ c.loop-rule.rule n (omega (arith, c.rules-rule-end.ensures)) c.if-is_unfailing.ensures c.loop-rule.invariant
 
 pub loop-rule-preserved : goal.loop-rule-preserved
-loop-rule-preserved g c = least_next _ c.loop-rule.rule c.if-is-unfailing.ensures c.loop-rule.invariant
+loop-rule-preserved g c = least_next _ c.loop-rule.rule c.if-is_unfailing.ensures c.loop-rule.invariant
 
 pub returns : goal.returns
 unfolding first_unfailing

@@ -4,13 +4,13 @@ use Rattle.std.proofs.lemmas.List.{at_drop_more, at_drop_all}
 use Rattle.sheet.specs.Open.{named}
 use Rattle.sheet.proofs.lists.is_named.Goals as goal
 
-pub returns-then-is-of : goal.returns-then-is-of
-returns-then-is-of c =
+pub returns-then-is_of : goal.returns-then-is_of
+returns-then-is_of c =
     let l = c.loop-literal in
     let zs = c.args.literals.now in
     let a = c.args.atom in
     let f : SFits w32 (get_or zs l.literal-index (pos 0)) = search rules in
-    ap (λ b. b || named (drop (l.literal-index + 1) zs) a) (simp to_z-of_z at c.if-is-of.ensures) ∙ sym (at_drop_more (λ xs. named xs a) zs l.literal-index (pos 0) (omega arith)) ∙ l.invariant
+    ap (λ b. b || named (drop (l.literal-index + 1) zs) a) (simp to_z-of_z at c.if-is_of.ensures) ∙ sym (at_drop_more (λ xs. named xs a) zs l.literal-index (pos 0) (omega arith)) ∙ l.invariant
 
 pub loop-literal-preserved : goal.loop-literal-preserved
 loop-literal-preserved c =
@@ -18,7 +18,7 @@ loop-literal-preserved c =
     let zs = c.args.literals.now in
     let a = c.args.atom in
     let f : SFits w32 (get_or zs l.literal-index (pos 0)) = search rules in
-    ap (λ b. b || named (drop (l.literal-index + 1) zs) a) (simp to_z-of_z at c.if-is-of.ensures) ∙ sym (at_drop_more (λ xs. named xs a) zs l.literal-index (pos 0) (omega arith)) ∙ l.invariant
+    ap (λ b. b || named (drop (l.literal-index + 1) zs) a) (simp to_z-of_z at c.if-is_of.ensures) ∙ sym (at_drop_more (λ xs. named xs a) zs l.literal-index (pos 0) (omega arith)) ∙ l.invariant
 
 pub returns : goal.returns
 returns c =

@@ -5,4 +5,4 @@ use Rattle.sheet.proofs.Looking.{some_unmet}
 use Rattle.sheet.proofs.looks.body_fails.Goals as goal
 
 pub returns : goal.returns
-returns g c = c.is-some.ensures ∙ ap is_some c.first-unmet.ensures ∙ some_unmet (literal_fails (marking c.args.marks.now)) _
+returns g c = c.is_some.ensures ∙ ap is_some c.first_unmet.ensures ∙ some_unmet (literal_fails (marking c.args.marks.now)) _

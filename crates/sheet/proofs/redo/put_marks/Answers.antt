@@ -7,7 +7,7 @@ pub loop-entry-preserved : goal.loop-entry-preserved
 loop-entry-preserved c =
     let l = c.loop-entry in
     let es = c.args.entries.now in
-    ap (λ ms. with_marks ms (drop (l.entry-index + 1) es)) c.put-mark.ensures ∙ sym (at_drop_more (with_marks l.marks) es l.entry-index _ (omega arith)) ∙ l.invariant
+    ap (λ ms. with_marks ms (drop (l.entry-index + 1) es)) c.put_mark.ensures ∙ sym (at_drop_more (with_marks l.marks) es l.entry-index _ (omega arith)) ∙ l.invariant
 
 pub returns : goal.returns
 returns c =

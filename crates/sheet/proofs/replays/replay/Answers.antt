@@ -4,26 +4,26 @@ use Rattle.sheet.proofs.KnownRuns.{known_runs_are_right}
 use Rattle.sheet.proofs.Replaying.{none_made, one_made, all_made}
 use Rattle.sheet.proofs.replays.replay.Goals as goal
 
-pub returns-in-err-sheet : goal.returns-in-err-sheet
-returns-in-err-sheet g c = let known = known_runs_are_right in search rules
+pub returns-in_err-sheet : goal.returns-in_err-sheet
+returns-in_err-sheet g c = let known = known_runs_are_right in search rules
 
-pub returns-in-err-answers : goal.returns-in-err-answers
-returns-in-err-answers g c = let known = known_runs_are_right in search rules
+pub returns-in_err-answers : goal.returns-in_err-answers
+returns-in_err-answers g c = let known = known_runs_are_right in search rules
 
 pub loop-call-init : goal.loop-call-init
 loop-call-init g c =
-    let made = c.in-ok-answers.ensures.made in
-    (none_made (g.B.Book.meaning c.args.book.now) c.args.calls.now _ _ made.0 c.in-ok-sheet.ensures.is, search rules, omega (arith, made))
+    let made = c.in_ok-answers.ensures in
+    (none_made (g.B.Book.meaning c.args.book.now) c.args.calls.now _ _ made.items c.in_ok-sheet.ensures.is, search rules, omega (arith, made.capacity))
 
-pub push-reserved-requires : goal.push-reserved-requires
-push-reserved-requires g c = omega (arith, c.loop-call.invariant.1, c.loop-call.invariant.2)
+pub push_reserved-requires : goal.push_reserved-requires
+push_reserved-requires g c = omega (arith, c.loop-call.invariant.1, c.loop-call.invariant.2)
 
 pub loop-call-preserved : goal.loop-call-preserved
 loop-call-preserved g c =
     let l = c.loop-call in (
-      one_made (g.B.Book.meaning c.args.book.now) c.args.calls.now l.call-index _ _ _ (view g.B.Book.meaning l.sheet) _ c.perform.result (omega arith) l.invariant.0 c.perform.ensures c.push-reserved.ensures.items,
-      omega (arith, l.invariant.1, c.push-reserved.ensures.len),
-      omega (arith, l.invariant.2, c.push-reserved.ensures.capacity),
+      one_made (g.B.Book.meaning c.args.book.now) c.args.calls.now l.call-index _ _ _ (view g.B.Book.meaning l.sheet) _ c.perform.result (omega arith) l.invariant.0 c.perform.ensures c.push_reserved.ensures.items,
+      omega (arith, l.invariant.1, c.push_reserved.ensures.len),
+      omega (arith, l.invariant.2, c.push_reserved.ensures.capacity),
     )
 
 pub returns : goal.returns

@@ -10,4 +10,4 @@ pub returns : goal.returns
 returns g c =
     let s = c.args.self.now in
     let v = view g.B.Book.meaning s in
-    c.is-ok.ensures.value ∙ ap is_ok (judged v.rules _ _ c.deref-2.result.now (marks v.state) (because c.args.atom c.args.reason) c.judge.result c.judge.ensures (ap flagged c.deref.ensures.value) (λ a. ap (λ ms. marking ms a) c.deref-2.ensures.value ∙ s.tied a))
+    c.is_ok.ensures.value ∙ ap is_ok (judged v.rules _ _ c.deref-2.result.now (marks v.state) (because c.args.atom c.args.reason) c.judge.result c.judge.ensures (ap flagged c.deref.ensures.value) (λ a. ap (λ ms. marking ms a) c.deref-2.ensures.value ∙ s.tied a))

@@ -12,66 +12,80 @@ use Rattle.sheet.proofs.Flagging.{answer_put, assumed_put, assumed_marking}
 use Rattle.sheet.proofs.Stored.{no_flag, unmarked_most}
 use Rattle.sheet.proofs.sheet.Sheet.begin.Given as given
 use Rattle.sheet.proofs.sheet.Sheet.begin.Goals as goal
-use Rattle.sheet.proofs.sheet.Sheet.begin.Goals.{After-put-literals, After-clear-in-Some-first-broken}
+use Rattle.sheet.proofs.sheet.Sheet.begin.Goals.{After-put_literals, After-clear-in-Some-first_broken}
 
 -- the flags once the literals are put
-put_answer_lem : (g : given.Over) (c : goal.After-put-literals g) → flagged (vec_items (with_items c.args.self.now.answer c.put-literals.new.answer)) ≡ positives c.args.literals.now
+put_answer_lem : (g : given.Over) (c : goal.After-put_literals g) → flagged (vec_items (with_items c.args.self.now.answer c.put_literals.new.answer)) ≡ positives c.args.literals.now
 put_answer_lem g c =
     let s = c.args.self.now in
     let zs = c.args.literals.now in
-    ap flagged (with_items_is s.answer c.put-literals.new.answer (omega (arith, c.put-literals.auto.answer, c.deref-mut.ensures.len)) ∙ c.put-literals.ensures.answer ∙ ap (λ flags. with_positives flags zs) c.deref-mut.ensures.value)
-    ∙ answer_put (g.B.Book.meaning s.book.now) zs (g.B.Book.lawful s.book.now).few_atoms (sym c.in-default.ensures) (vec_items s.answer) (omega (arith, s.answers, s.answer.ok)) (λ a. s.unanswered a c.if-self.false)
+    ap flagged (with_items_is s.answer c.put_literals.new.answer (omega (arith, c.put_literals.auto.answer, c.deref_mut.ensures.len)) ∙ c.put_literals.ensures.answer ∙ ap (λ flags. with_positives flags zs) c.deref_mut.ensures.value)
+    ∙ answer_put (g.B.Book.meaning s.book.now) zs (g.B.Book.lawful s.book.now).few_atoms (sym c.in_default.ensures) (vec_items s.answer) (omega (arith, s.answers, s.answer.ok)) (λ a. s.unanswered a c.if-self.false)
 
-put_assumed : (g : given.Over) (c : goal.After-put-literals g) → flagged (vec_items (with_items c.args.self.now.assumed c.put-literals.new.assumed)) ≡ negatives c.args.literals.now
+put_assumed : (g : given.Over) (c : goal.After-put_literals g) → flagged (vec_items (with_items c.args.self.now.assumed c.put_literals.new.assumed)) ≡ negatives c.args.literals.now
 put_assumed g c =
     let s = c.args.self.now in
     let zs = c.args.literals.now in
-    ap flagged (with_items_is s.assumed c.put-literals.new.assumed (omega (arith, c.put-literals.auto.assumed, c.deref-mut-2.ensures.len)) ∙ c.put-literals.ensures.assumed ∙ ap (λ flags. with_negatives flags zs) c.deref-mut-2.ensures.value)
-    ∙ assumed_put (g.B.Book.meaning s.book.now) zs (g.B.Book.lawful s.book.now).few_atoms (sym c.in-default.ensures) (vec_items s.assumed) (omega (arith, s.assumes, s.assumed.ok)) (λ a. s.unassuming a c.if-self.false)
+    ap flagged (with_items_is s.assumed c.put_literals.new.assumed (omega (arith, c.put_literals.auto.assumed, c.deref_mut-2.ensures.len)) ∙ c.put_literals.ensures.assumed ∙ ap (λ flags. with_negatives flags zs) c.deref_mut-2.ensures.value)
+    ∙ assumed_put (g.B.Book.meaning s.book.now) zs (g.B.Book.lawful s.book.now).few_atoms (sym c.in_default.ensures) (vec_items s.assumed) (omega (arith, s.assumes, s.assumed.ok)) (λ a. s.unassuming a c.if-self.false)
 
 -- the flags once they are cleared again
-cleared_answer : (g : given.Over) (c : goal.After-clear-in-Some-first-broken g) (a : ℕ) → flagged (vec_items (with_items (with_items c.args.self.now.answer c.put-literals.new.answer) c.clear.new.flags)) a ≡ false
+cleared_answer : (g : given.Over) (c : goal.After-clear-in-Some-first_broken g) (a : ℕ) → flagged (vec_items (with_items (with_items c.args.self.now.answer c.put_literals.new.answer) c.clear.new.flags)) a ≡ false
 cleared_answer g c a =
-    let v = with_items c.args.self.now.answer c.put-literals.new.answer in
-    ap (λ flags. flagged flags a) (with_items_is v c.clear.new.flags (omega (arith, c.clear.auto, c.deref-mut-in-Some-first-broken.ensures.len)) ∙ c.clear.ensures) ∙ no_flag _ a
+    let v = with_items c.args.self.now.answer c.put_literals.new.answer in
+    ap (λ flags. flagged flags a) (with_items_is v c.clear.new.flags (omega (arith, c.clear.auto, c.deref_mut-in-Some-first_broken.ensures.len)) ∙ c.clear.ensures) ∙ no_flag _ a
 
-cleared_assumed : (g : given.Over) (c : goal.After-clear-in-Some-first-broken g) (a : ℕ) → flagged (vec_items (with_items (with_items c.args.self.now.assumed c.put-literals.new.assumed) c.clear-in-Some-first-broken.new.flags)) a ≡ false
+cleared_assumed : (g : given.Over) (c : goal.After-clear-in-Some-first_broken g) (a : ℕ) → flagged (vec_items (with_items (with_items c.args.self.now.assumed c.put_literals.new.assumed) c.clear-in-Some-first_broken.new.flags)) a ≡ false
 cleared_assumed g c a =
-    let v = with_items c.args.self.now.assumed c.put-literals.new.assumed in
-    ap (λ flags. flagged flags a) (with_items_is v c.clear-in-Some-first-broken.new.flags (omega (arith, c.clear-in-Some-first-broken.auto, c.deref-mut-in-Some-first-broken-2.ensures.len)) ∙ c.clear-in-Some-first-broken.ensures) ∙ no_flag _ a
+    let v = with_items c.args.self.now.assumed c.put_literals.new.assumed in
+    ap (λ flags. flagged flags a) (with_items_is v c.clear-in-Some-first_broken.new.flags (omega (arith, c.clear-in-Some-first_broken.auto, c.deref_mut-in-Some-first_broken-2.ensures.len)) ∙ c.clear-in-Some-first_broken.ensures) ∙ no_flag _ a
 
-pub invariant-of-self : goal.invariant-of-self
-invariant-of-self g c =
+pub invariant_of-self : goal.invariant_of-self
+invariant_of-self g c =
     let s = c.args.self.now in
-    let at = (goal.at.invariant-of-self g c).After-clear-in-Some-first-broken in
-    let same = fun_ext (λ a. s.unassuming a c.if-self.false ∙ sym (cleared_assumed g at a)) in (
-      λ a. s.tied a ∙ ap (λ X. marked_all (assuming X) (vec_items s.entries) a) same,
-      (s.answers, (s.assumes, (s.sized, (s.room, (s.reserved, (λ a _. cleared_answer g at a, (λ a _. cleared_assumed g at a, tt))))))),
-    )
+    let at = (goal.at.invariant_of-self g c).After-clear-in-Some-first_broken in
+    let same = fun_ext (λ a. s.unassuming a c.if-self.false ∙ sym (cleared_assumed g at a)) in
+    record {
+      tied = λ a. s.tied a ∙ ap (λ X. marked_all (assuming X) (vec_items s.entries) a) same;
+      answers = s.answers;
+      assumes = s.assumes;
+      sized = s.sized;
+      room = s.room;
+      reserved = s.reserved;
+      unanswered = λ a _. cleared_answer g at a;
+      unassuming = λ a _. cleared_assumed g at a;
+    }
 
-pub returns-in-Some-first-broken : goal.returns-in-Some-first-broken
-returns-in-Some-first-broken g c =
+pub returns-in-Some-first_broken : goal.returns-in-Some-first_broken
+returns-in-Some-first_broken g c =
     let s = c.args.self.now in
     let v = view g.B.Book.meaning s in
-    let at = (goal.at.returns-in-Some-first-broken g c).After-clear-in-Some-first-broken in
-    open_violates v.rules v.state c.args.literals.now c.if-self.false (sym c.in-default.ensures) _ _ _ c.in-Some-first-broken.rule
-    (put_answer_lem g (goal.at.returns-in-Some-first-broken g c).After-put-literals)
+    let at = (goal.at.returns-in-Some-first_broken g c).After-clear-in-Some-first_broken in
+    open_violates v.rules v.state c.args.literals.now c.if-self.false (sym c.in_default.ensures) _ _ _ c.in-Some-first_broken.rule
+    (put_answer_lem g (goal.at.returns-in-Some-first_broken g c).After-put_literals)
     (fun_ext (λ a. cleared_answer g at a ∙ sym (s.unanswered a c.if-self.false)))
     (fun_ext (λ a. cleared_assumed g at a ∙ sym (s.unassuming a c.if-self.false)))
-    (c.in-Some-first-broken.ensures ∙ ap (λ flags. first_broken v.rules (flagged flags)) c.deref.ensures.value)
+    (c.in-Some-first_broken.ensures ∙ ap (λ flags. first_broken v.rules (flagged flags)) c.deref.ensures.value)
 
-pub invariant-of-self-2 : goal.invariant-of-self-2
-invariant-of-self-2 g c =
+pub invariant_of-self-2 : goal.invariant_of-self-2
+invariant_of-self-2 g c =
     let s = c.args.self.now in
-    let marks = with_items_is s.marks c.put-assumed.new.marks (omega (arith, c.put-assumed.auto, c.deref-mut-3.ensures.len)) ∙ c.put-assumed.ensures ∙ ap (map mark_assumed) c.deref-3.ensures.value in
-    let flags = vec_items (with_items s.assumed c.put-literals.new.assumed) in (
-      λ a. ap (λ ms. marking ms a) marks ∙ assumed_marking flags a ∙ sym (ap (λ es. marked_all (assuming (flagged flags)) es a) c.clear-2.ensures.items),
-      (s.answers, (s.assumes, (s.sized, (omega (arith, c.clear-2.ensures.len, unmarked_most (vec_items (with_items s.marks c.put-assumed.new.marks))), (omega (arith, s.reserved, c.clear-2.ensures.capacity), (λ a e. absurd (true≢false e), (λ a e. absurd (true≢false e), tt))))))),
-    )
+    let marks = with_items_is s.marks c.put_assumed.new.marks (omega (arith, c.put_assumed.auto, c.deref_mut-3.ensures.len)) ∙ c.put_assumed.ensures ∙ ap (map mark_assumed) c.deref-3.ensures.value in
+    let flags = vec_items (with_items s.assumed c.put_literals.new.assumed) in
+    record {
+      tied = λ a. ap (λ ms. marking ms a) marks ∙ assumed_marking flags a ∙ sym (ap (λ es. marked_all (assuming (flagged flags)) es a) c.clear-2.ensures.items);
+      answers = s.answers;
+      assumes = s.assumes;
+      sized = s.sized;
+      room = omega (arith, c.clear-2.ensures.len, unmarked_most (vec_items (with_items s.marks c.put_assumed.new.marks)));
+      reserved = omega (arith, s.reserved, c.clear-2.ensures.capacity);
+      unanswered = λ a e. absurd (true≢false e);
+      unassuming = λ a e. absurd (true≢false e);
+    }
 
 pub returns : goal.returns
 returns g c =
     let v = view g.B.Book.meaning c.args.self.now in
-    let at = (goal.at.returns g c).After-put-literals in
-    open_takes v.rules v.state c.args.literals.now c.if-self.false (sym c.in-default.ensures) _ _ _ (put_answer_lem g at) (put_assumed g at) c.clear-2.ensures.items
-    (c.in-default-first-broken.ensures ∙ ap (λ flags. first_broken v.rules (flagged flags)) c.deref.ensures.value)
+    let at = (goal.at.returns g c).After-put_literals in
+    open_takes v.rules v.state c.args.literals.now c.if-self.false (sym c.in_default.ensures) _ _ _ (put_answer_lem g at) (put_assumed g at) c.clear-2.ensures.items
+    (c.in_default-first_broken.ensures ∙ ap (λ flags. first_broken v.rules (flagged flags)) c.deref.ensures.value)

@@ -8,25 +8,32 @@ use Rattle.sheet.proofs.Keeping.{new_sound}
 use Rattle.sheet.proofs.Stored.{unmarked_most, no_flag, no_mark, new_state}
 use Rattle.sheet.proofs.sheet.Sheet.new.Goals as goal
 
-pub invariant-of-result : goal.invariant-of-result
-invariant-of-result g c =
+pub invariant_of-result : goal.invariant_of-result
+invariant_of-result g c =
     let n = c.places-n.result in
-    let a = c.in-ok-answer.ensures.items-if-clones-equal (λ y e. e) in
-    let d = c.in-ok-assumed.ensures.items-if-clones-equal (λ y e. e) in
-    let m = c.in-ok-marks.ensures.items-if-clones-equal (λ y e. e) in
-    let e = c.in-ok-entries.ensures.made in
-    let la : vec_len c.in-ok-answer.answer ≡ n = search rules in
-    let ld : vec_len c.in-ok-assumed.assumed ≡ n = search rules in
-    let lm : vec_len c.in-ok-marks.marks ≡ n = search rules in
-    let size = c.places-n.ensures in (
-      λ p. rw (m, d, e.0) (no_mark n p ∙ sym (cond-false (flagged (replicate n false) p) _ _ (no_flag n p))),
-      (la ∙ size, (ld ∙ size, (lm ∙ size, (omega (arith, e, unmarked_most (vec_items c.in-ok-marks.marks)), (omega (arith, e, size), (λ p _. rw a (no_flag n p), (λ p _. rw d (no_flag n p), tt))))))),
-    )
+    let a = c.in_ok-answer.ensures.items_if_clones_equal (λ y e. e) in
+    let d = c.in_ok-assumed.ensures.items_if_clones_equal (λ y e. e) in
+    let m = c.in_ok-marks.ensures.items_if_clones_equal (λ y e. e) in
+    let e = c.in_ok-entries.ensures in
+    let la : vec_len c.in_ok-answer.answer ≡ n = search rules in
+    let ld : vec_len c.in_ok-assumed.assumed ≡ n = search rules in
+    let lm : vec_len c.in_ok-marks.marks ≡ n = search rules in
+    let size = c.places-n.ensures in
+    record {
+      tied = λ p. rw (m, d, e.items) (no_mark n p ∙ sym (cond-false (flagged (replicate n false) p) _ _ (no_flag n p)));
+      answers = la ∙ size;
+      assumes = ld ∙ size;
+      sized = lm ∙ size;
+      room = omega (arith, e.len, unmarked_most (vec_items c.in_ok-marks.marks));
+      reserved = omega (arith, e.capacity, size);
+      unanswered = λ p _. rw a (no_flag n p);
+      unassuming = λ p _. rw d (no_flag n p);
+    }
 
 pub returns : goal.returns
 returns g c =
     let n = c.places-n.result in
     let R = g.B.Book.meaning c.args.book.now in
     let is = ap (λ s. record { rules = R; state = s })
-    (new_state n _ _ _ (c.in-ok-answer.ensures.items-if-clones-equal (λ y e. e)) (c.in-ok-assumed.ensures.items-if-clones-equal (λ y e. e)) c.in-ok-entries.ensures.items) in
+    (new_state n _ _ _ (c.in_ok-answer.ensures.items_if_clones_equal (λ y e. e)) (c.in_ok-assumed.ensures.items_if_clones_equal (λ y e. e)) c.in_ok-entries.ensures.items) in
     record { is = is; sound = subst SoundAndReliable (sym is) (relied (record { rules = R; state = new }) (g.B.Book.lawful c.args.book.now) (new_sound R)) }

@@ -5,10 +5,10 @@ use Rattle.sheet.proofs.sheet.Sheet.rounds.Goals as goal
 
 pub returns-then-len-before : goal.returns-then-len-before
 returns-then-len-before g c =
-    rounds_stop c.args.most c.loop-turn.-turn (view g.B.Book.meaning c.loop-turn.self) _ c.loop-turn.invariant (omega arith) _ c.round.ensures
+    rounds_stop c.args.most c.loop-turn._turn (view g.B.Book.meaning c.loop-turn.self) _ c.loop-turn.invariant (omega arith) _ c.round.ensures
     (omega (arith, c.round.new.self.entries.ok, c.loop-turn.self.entries.ok))
 
 pub loop-turn-preserved : goal.loop-turn-preserved
 loop-turn-preserved g c =
-    rounds_on c.args.most c.loop-turn.-turn (view g.B.Book.meaning c.loop-turn.self) _ c.loop-turn.invariant (omega arith) _ c.round.ensures
+    rounds_on c.args.most c.loop-turn._turn (view g.B.Book.meaning c.loop-turn.self) _ c.loop-turn.invariant (omega arith) _ c.round.ensures
     (λ e. c.if-len-before.false (omega (arith, e, c.round.new.self.entries.ok, c.loop-turn.self.entries.ok)))

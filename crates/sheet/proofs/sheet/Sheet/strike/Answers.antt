@@ -10,7 +10,7 @@ returns g c =
     let s = c.args.self.now in
     let v = view g.B.Book.meaning s in
     record {
-      does = c.take-off.ensures;
-      keeps = λ k. stays v.rules _ _ (g.B.Book.lawful s.book.now) (ap (λ o. o.1) c.take-off.ensures) (strike_sound v.rules v.state k c.args.atom);
+      does = c.take_off.ensures;
+      keeps = λ k. stays v.rules _ _ (g.B.Book.lawful s.book.now) (ap (λ o. o.1) c.take_off.ensures) (strike_sound v.rules v.state k c.args.atom);
       counts = counts_the_struck v.rules v.state c.args.atom;
     }

@@ -9,46 +9,53 @@ use Rattle.sheet.proofs.Called.{judged, enter_takes, enter_refuses, Placed, plac
 use Rattle.sheet.proofs.Stored.{push_tied}
 use Rattle.sheet.proofs.sheet.Sheet.take.Given as given
 use Rattle.sheet.proofs.sheet.Sheet.take.Goals as goal
-use Rattle.sheet.proofs.sheet.Sheet.take.Goals.{After-put-mark}
+use Rattle.sheet.proofs.sheet.Sheet.take.Goals.{After-put_mark}
 
 -- what the judge has said, of the marks as the sheet keeps them
-allowed : (g : given.Over) (c : goal.After-put-mark g) → Ok tt ≡ verdict (g.B.Book.meaning c.args.self.now.book.now) (flagged (vec_items c.args.self.now.answer)) (marking (vec_items c.args.self.now.marks)) c.args.proposal
+allowed : (g : given.Over) (c : goal.After-put_mark g) → Ok tt ≡ verdict (g.B.Book.meaning c.args.self.now.book.now) (flagged (vec_items c.args.self.now.answer)) (marking (vec_items c.args.self.now.marks)) c.args.proposal
 allowed g c =
     let s = c.args.self.now in
-    judged (g.B.Book.meaning s.book.now) _ _ c.deref-2.result.now _ c.args.proposal (Ok tt) c.in-ok-judge.ensures (ap flagged c.deref.ensures.value) (λ a. ap (λ ms. marking ms a) c.deref-2.ensures.value)
+    judged (g.B.Book.meaning s.book.now) _ _ c.deref-2.result.now _ c.args.proposal (Ok tt) c.in_ok-judge.ensures (ap flagged c.deref.ensures.value) (λ a. ap (λ ms. marking ms a) c.deref-2.ensures.value)
 
-fits : (g : given.Over) (c : goal.After-put-mark g) → Placed (vec_items c.args.self.now.marks) c.args.proposal
+fits : (g : given.Over) (c : goal.After-put_mark g) → Placed (vec_items c.args.self.now.marks) c.args.proposal
 fits g c =
     let s = c.args.self.now in
     placed (g.B.Book.meaning s.book.now) _ (vec_items s.marks) c.args.proposal (g.B.Book.lawful s.book.now).few_atoms (omega (arith, s.sized, s.marks.ok)) (allowed g c)
 
-pub returns-in-err-judge : goal.returns-in-err-judge
-returns-in-err-judge g c =
+pub returns-in_err-judge : goal.returns-in_err-judge
+returns-in_err-judge g c =
     let s = c.args.self.now in
     let v = view g.B.Book.meaning s in
-    let x = c.in-err-judge.field-0.0 in
-    let refused : c.from-residual.result ≡ Err x = search rules in
-    let verdict_is = judged v.rules _ _ c.deref-2.result.now (marks v.state) c.args.proposal (Err x) c.in-err-judge.ensures (ap flagged c.deref.ensures.value) (λ a. ap (λ ms. marking ms a) c.deref-2.ensures.value ∙ s.tied a) in
+    let x = c.in_err-judge.field-0.0 in
+    let refused : c.from_residual.result ≡ Err x = search rules in
+    let verdict_is = judged v.rules _ _ c.deref-2.result.now (marks v.state) c.args.proposal (Err x) c.in_err-judge.ensures (ap flagged c.deref.ensures.value) (λ a. ap (λ ms. marking ms a) c.deref-2.ensures.value ∙ s.tied a) in
     ap (λ r. (r, v)) refused ∙ enter_refuses v.rules v.state c.args.proposal c.if-not-self.false x verdict_is
 
-pub push-reserved-requires : goal.push-reserved-requires
-push-reserved-requires g c =
+pub push_reserved-requires : goal.push_reserved-requires
+push_reserved-requires g c =
     let s = c.args.self.now in
-    omega (arith, s.room, s.reserved, (fits g (goal.at.push-reserved-requires g c).After-put-mark).less)
+    omega (arith, s.room, s.reserved, (fits g (goal.at.push_reserved-requires g c).After-put_mark).less)
 
-pub invariant-of-self-2 : goal.invariant-of-self-2
-invariant-of-self-2 g c =
+pub invariant_of-self-2 : goal.invariant_of-self-2
+invariant_of-self-2 g c =
     let s = c.args.self.now in
     let P = c.args.proposal in
-    let f = fits g (goal.at.invariant-of-self-2 g c).After-put-mark in
-    let put = with_items_is s.marks c.put-mark.new.marks (omega (arith, c.put-mark.auto, c.deref-mut.ensures.len)) ∙ c.put-mark.ensures ∙ ap (λ ms. set ms P.atom (mark_for (claim P.reason))) c.deref-mut.ensures.value in (
-      λ a. ap (λ ms. marking ms a) put ∙ push_tied (vec_items s.marks) P f.within (assuming (flagged (vec_items s.assumed))) (vec_items s.entries) _ s.tied c.push-reserved.ensures.items a,
-      (s.answers, (s.assumes, (s.sized, (omega (arith, s.room, f.less, ap unmarked_in put, c.push-reserved.ensures.len), (omega (arith, s.reserved, c.push-reserved.ensures.capacity), (s.unanswered, (s.unassuming, tt))))))),
-    )
+    let f = fits g (goal.at.invariant_of-self-2 g c).After-put_mark in
+    let put = with_items_is s.marks c.put_mark.new.marks (omega (arith, c.put_mark.auto, c.deref_mut.ensures.len)) ∙ c.put_mark.ensures ∙ ap (λ ms. set ms P.atom (mark_for (claim P.reason))) c.deref_mut.ensures.value in
+    record {
+      tied = λ a. ap (λ ms. marking ms a) put ∙ push_tied (vec_items s.marks) P f.within (assuming (flagged (vec_items s.assumed))) (vec_items s.entries) _ s.tied c.push_reserved.ensures.items a;
+      answers = s.answers;
+      assumes = s.assumes;
+      sized = s.sized;
+      room = omega (arith, s.room, f.less, ap unmarked_in put, c.push_reserved.ensures.len);
+      reserved = omega (arith, s.reserved, c.push_reserved.ensures.capacity);
+      unanswered = s.unanswered;
+      unassuming = s.unassuming;
+    }
 
 pub returns : goal.returns
 returns g c =
     let s = c.args.self.now in
     let v = view g.B.Book.meaning s in
-    let taken = judged v.rules _ _ (vec_items s.marks) (marks v.state) c.args.proposal (Ok tt) (allowed g (goal.at.returns g c).After-put-mark) refl s.tied in
-    enter_takes v.rules v.state c.args.proposal c.if-not-self.false (vec_items c.push-reserved.new.self) taken c.push-reserved.ensures.items
+    let taken = judged v.rules _ _ (vec_items s.marks) (marks v.state) c.args.proposal (Ok tt) (allowed g (goal.at.returns g c).After-put_mark) refl s.tied in
+    enter_takes v.rules v.state c.args.proposal c.if-not-self.false (vec_items c.push_reserved.new.self) taken c.push_reserved.ensures.items
