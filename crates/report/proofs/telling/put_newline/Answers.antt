@@ -2,9 +2,9 @@ use Rattle.std.proofs.Common.{rules}
 use Rattle.report.specs.Told.{newline}
 use Rattle.report.proofs.telling.put_newline.Goals as goal
 
-pub put-piece-requires : goal.put-piece-requires
+pub put_piece-requires : goal.put_piece-requires
 unfolding newline
-put-piece-requires c = search rules
+put_piece-requires c = search rules
 
 pub returns : goal.returns
 unfolding newline

@@ -6,9 +6,9 @@ pub bounds-out-at : goal.bounds-out-at
 unfolding number
 bounds-out-at c = search rules
 
-pub returns-in-err-size : goal.returns-in-err-size
+pub returns-in_err-size : goal.returns-in_err-size
 unfolding number
-returns-in-err-size c = search rules
+returns-in_err-size c = search rules
 
 pub returns : goal.returns
 unfolding number

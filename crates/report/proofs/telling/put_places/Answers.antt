@@ -3,17 +3,17 @@ use Rattle.base.proofs.Puts.{sets_append}
 use Rattle.report.specs.Told.{places_of}
 use Rattle.report.proofs.telling.put_places.Goals as goal
 
-pub put-numeral-requires : goal.put-numeral-requires
+pub put_numeral-requires : goal.put_numeral-requires
 unfolding places_of
-put-numeral-requires c = grind (arith, length-append)
+put_numeral-requires c = grind (arith, length-append)
 
-pub put-numeral-requires-2 : goal.put-numeral-requires-2
+pub put_numeral-requires-2 : goal.put_numeral-requires-2
 unfolding places_of
-put-numeral-requires-2 c = grind (arith, length-append)
+put_numeral-requires-2 c = grind (arith, length-append)
 
-pub put-newline-requires : goal.put-newline-requires
+pub put_newline-requires : goal.put_newline-requires
 unfolding places_of
-put-newline-requires c = grind (arith, length-append)
+put_newline-requires c = grind (arith, length-append)
 
 pub returns : goal.returns
 unfolding places_of

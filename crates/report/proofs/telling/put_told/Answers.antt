@@ -2,17 +2,17 @@ use Rattle.std.proofs.Common.{arith, length-append}
 use Rattle.base.proofs.Puts.{sets_append}
 use Rattle.report.proofs.telling.put_told.Goals as goal
 
-pub put-opening-requires : goal.put-opening-requires
-put-opening-requires c = grind (arith, length-append)
+pub put_opening-requires : goal.put_opening-requires
+put_opening-requires c = grind (arith, length-append)
 
-pub put-numeral-requires : goal.put-numeral-requires
-put-numeral-requires c = grind (arith, length-append)
+pub put_numeral-requires : goal.put_numeral-requires
+put_numeral-requires c = grind (arith, length-append)
 
-pub put-piece-requires : goal.put-piece-requires
-put-piece-requires c = grind (arith, length-append)
+pub put_piece-requires : goal.put_piece-requires
+put_piece-requires c = grind (arith, length-append)
 
-pub put-places-requires : goal.put-places-requires
-put-places-requires c = grind (arith, length-append)
+pub put_places-requires : goal.put_places-requires
+put_places-requires c = grind (arith, length-append)
 
 pub returns : goal.returns
 returns c = record { end = grind (arith, length-append); list = grind (arith, sets_append) }
