@@ -2,7 +2,7 @@
 use Rattle.std.proofs.Common.{◌≡◌, ℕ, zero, suc, ◌+◌, ◌<◌, ◌≤◌, Bool, true, false, cond, ◌&&◌, List, [], ◌∷◌, length, get_or, drop, Some, None, Option, sym, refl, ap, ◌∙◌, subst, inl, inr, add-one, arith}
 use Rattle.std.proofs.lemmas.List.{at_drop_more, at_drop_all}
 use Rattle.std.proofs.lemmas.Bool.{cases_eq, and_parts, and_from}
-use Rattle.std.specs.List.{AllByRecursion as All}
+use Rattle.std.specs.List.{AllByRecursion as Each}
 use Rattle.base.specs.Search.{least, or_else, every}
 
 -- the number n, if it passes
@@ -59,10 +59,10 @@ pub every_end : {X : Type 0} (p : X → Bool) (xs : List X) (i : ℕ) → length
 every_end p xs i h inv = sym (at_drop_all (every p) xs i h) ∙ inv
 
 -- where every element passes, what passing tells holds of each, and the other way round
-pub every_all : {X : Type 0} (p : X → Bool) (P : X → Type 0) → ((x : X) → p x ≡ true → P x) → (xs : List X) → every p xs ≡ true → All P xs
+pub every_all : {X : Type 0} (p : X → Bool) (P : X → Type 0) → ((x : X) → p x ≡ true → P x) → (xs : List X) → every p xs ≡ true → Each P xs
 every_all p P f [] h = tt
 every_all p P f (x ∷ xs) h = let b = and_parts (p x) (every p xs) h in (f x b.0, every_all p P f xs b.1)
 
-pub all_every : {X : Type 0} (p : X → Bool) (P : X → Type 0) → ((x : X) → P x → p x ≡ true) → (xs : List X) → All P xs → every p xs ≡ true
+pub all_every : {X : Type 0} (p : X → Bool) (P : X → Type 0) → ((x : X) → P x → p x ≡ true) → (xs : List X) → Each P xs → every p xs ≡ true
 all_every p P f [] h = refl
 all_every p P f (x ∷ xs) h = and_from (p x) (every p xs) (f x h.0) (all_every p P f xs h.1)

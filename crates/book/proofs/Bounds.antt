@@ -1,11 +1,11 @@
 -- What a book that keeps the limits can answer.
 use Rattle.std.proofs.Common.{◌≡◌, ℕ, zero, suc, ◌≤◌, List, [], ◌∷◌, length, Some, None, Option, subst, arith}
-use Rattle.std.specs.List.{AllByRecursion as All, slice_get}
+use Rattle.std.specs.List.{AllByRecursion as Each, slice_get}
 use Rattle.book.specs.Rules.{Rule, Rules, Lawful, LawfulRule, Atom, head_limit, rule_at, head_size, body_size, head_atom}
 use Rattle.book.specs.declared.kind.Kind.{Kind}
 use Rattle.book.specs.declared.kind.Kind.TheVariants.{Plain, Choice}
 
-pub all_nth : {X : Type 0} (P : X → Type 0) (xs : List X) (i : ℕ) (x : X) → All P xs → Some x ≡ slice_get xs i → P x
+pub all_nth : {X : Type 0} (P : X → Type 0) (xs : List X) (i : ℕ) (x : X) → Each P xs → Some x ≡ slice_get xs i → P x
 all_nth P [] i x h e = let z : ◌≡◌ {A = ℕ} 0 1 = cc in absurd (omega arith)
 all_nth P (y ∷ xs) zero x h e = let s : y ≡ x = cc in subst P s h.0
 all_nth P (y ∷ xs) (suc i) x h e = all_nth P xs i x h.1 e
@@ -19,7 +19,7 @@ abbrev LawfulIn : ℕ → Option Rule → Type 0
 LawfulIn n None = Unit {0}
 LawfulIn n (Some ρ) = LawfulRule n ρ
 
-lawful_in : (n : ℕ) (ρs : List Rule) (i : ℕ) → All (LawfulRule n) ρs → LawfulIn n (slice_get ρs i)
+lawful_in : (n : ℕ) (ρs : List Rule) (i : ℕ) → Each (LawfulRule n) ρs → LawfulIn n (slice_get ρs i)
 lawful_in n [] i l = tt
 lawful_in n (ρ ∷ ρs) zero l = l.0
 lawful_in n (ρ ∷ ρs) (suc i) l = lawful_in n ρs i l.1

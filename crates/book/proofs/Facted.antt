@@ -1,7 +1,7 @@
 -- A list of facts is accepted exactly where its facts keep the limits, and then makes the book of those facts.
 use Rattle.std.proofs.Common.{◌≡◌, ℕ, zero, suc, ◌<◌, ◌≤◌, true, not, ltb, List, [], ◌∷◌, map, length, get_or, is_ok, None, Ok, refl, ap, ◌∙◌, subst, arith}
 use lib.ListN.{length-map}
-use Rattle.std.specs.List.{slice_get, AllByRecursion as All}
+use Rattle.std.specs.List.{slice_get, AllByRecursion as Each}
 use Rattle.std.proofs.ByRecursion.{All-get_or}
 use Rattle.std.proofs.lemmas.Bool.{and_from, cond_both, cond-true, cond-false, le-leb, le-ltb, lt-ltb}
 use Rattle.base.proofs.Search.{none_found}
@@ -16,7 +16,7 @@ no_literal [] rule at = refl
 no_literal (a ∷ facts) zero at = refl
 no_literal (a ∷ facts) (suc rule) at = no_literal facts rule at
 
-each_atom : (n : ℕ) (facts : List ℕ) → All (LawfulRule n) (map fact_rule facts) → All (Atom n) facts
+each_atom : (n : ℕ) (facts : List ℕ) → Each (LawfulRule n) (map fact_rule facts) → Each (Atom n) facts
 each_atom n [] l = tt
 each_atom n (a ∷ facts) l = (l.0.heads.0, each_atom n facts l.1)
 

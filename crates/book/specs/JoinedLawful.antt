@@ -1,7 +1,7 @@
 -- Joined books keep the limits where each of the two does: what the joined book owes as a book.
 use Rattle.std.specs.Prelude.{ℕ, ◌+◌, ◌≤◌, max, List, length}
 use Rattle.std.proofs.Common.{arith, length-append}
-use Rattle.std.specs.List.{AllByRecursion as All}
+use Rattle.std.specs.List.{AllByRecursion as Each}
 use Rattle.std.proofs.ByRecursion.{All-append, All-weaker}
 use Rattle.std.proofs.lemmas.Bool.{cond_both, leb-true}
 use Rattle.book.specs.Rules.{Rule, Rules, no_rules, Lawful, LawfulRule, Atom, Literal}
@@ -16,7 +16,7 @@ wider m n h ρ l = record {
   short_body = l.short_body;
 }
 
-each_wider : (m n : ℕ) → m ≤ n → (ρs : List Rule) → All (LawfulRule m) ρs → All (LawfulRule n) ρs
+each_wider : (m n : ℕ) → m ≤ n → (ρs : List Rule) → Each (LawfulRule m) ρs → Each (LawfulRule n) ρs
 each_wider m n h ρs l = All-weaker (LawfulRule m) (LawfulRule n) (wider m n h) ρs l
 
 pub no_rules_lawful : Lawful no_rules

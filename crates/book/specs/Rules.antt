@@ -1,6 +1,6 @@
 -- What a book means: how many atoms it has, and its rules.
 use Rattle.std.specs.Prelude.{ℕ, ◌≤◌, List, [], length, ℤ, Some, None, Option, unsigned_abs}
-use Rattle.std.specs.List.{AllByRecursion as All, slice_get}
+use Rattle.std.specs.List.{AllByRecursion as Each, slice_get}
 use Rattle.book.specs.declared.kind.Kind.{Kind}
 use Rattle.book.specs.declared.kind.Kind.TheVariants.{Plain, Choice}
 
@@ -56,12 +56,12 @@ head_limit Plain = 1
 head_limit Choice = 255
 
 pub record LawfulRule (n : ℕ) (ρ : Rule) : Type 0 where
-  pub heads : All (Atom n) ρ.head
-  pub literals : All (Literal n) ρ.body
+  pub heads : Each (Atom n) ρ.head
+  pub literals : Each (Literal n) ρ.body
   pub short_head : length ρ.head ≤ head_limit ρ.kind
   pub short_body : length ρ.body ≤ 255
 
 pub record Lawful (R : Rules) : Type 0 where
   pub few_atoms : R.atoms ≤ 1024
   pub few_rules : length R.rules ≤ 2048
-  pub each : All (LawfulRule R.atoms) R.rules
+  pub each : Each (LawfulRule R.atoms) R.rules

@@ -1,7 +1,7 @@
 // The rules of one book and then those of another.
 ghost use Rattle.std.specs.Prelude.{◌≡◌};
 ghost use Rattle.book.specs.Rules.{rule_at};
-ghost use Rattle.book.specs.Joined.{fit_together, joined as joinedRules, joined_name, rule_in};
+ghost use Rattle.book.specs.Joined.{fit_together, joined as joined_rules, joined_name, rule_in};
 ghost use Rattle.book.specs.JoinedLawful.{joined_lawful};
 
 use crate::book::{Book, NamedBook};
@@ -23,7 +23,7 @@ impl<P: Book, Q: Book> JoinedBook<P, Q> {
     }
 
     fn place(&self, rule: u32) -> Place
-        ensures { rule_at (joinedRules (P.Book.meaning self.now.first) (Q.Book.meaning self.now.second)) rule ≡ rule_in (P.Book.meaning self.now.first) (Q.Book.meaning self.now.second) result }
+        ensures { rule_at (joined_rules (P.Book.meaning self.now.first) (Q.Book.meaning self.now.second)) rule ≡ rule_in (P.Book.meaning self.now.first) (Q.Book.meaning self.now.second) result }
     {
         if !self.fits() {
             return Place::Nowhere;
@@ -38,7 +38,7 @@ impl<P: Book, Q: Book> JoinedBook<P, Q> {
 }
 
 impl<P: Book, Q: Book> Book for JoinedBook<P, Q> {
-    ghost meaning = { λ j. joinedRules (P.Book.meaning j.first) (Q.Book.meaning j.second) };
+    ghost meaning = { λ j. joined_rules (P.Book.meaning j.first) (Q.Book.meaning j.second) };
 
     ghost lawful = { λ j. joined_lawful (P.Book.meaning j.first) (Q.Book.meaning j.second) (P.Book.lawful j.first) (Q.Book.lawful j.second) };
 

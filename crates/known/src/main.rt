@@ -17,7 +17,7 @@ fn all_names(rt: &HostRuntime) -> anyhow::Result<Vec<String>> {
             names.push(String::from_str(rt.alloc(), name)?)?;
         }
     }
-    names.sort();
+    names.sort()?;
     Ok(names)
 }
 

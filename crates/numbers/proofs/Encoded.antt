@@ -1,7 +1,7 @@
 -- The encoding of rules that keep the limits is accepted, and spells out those rules.
 use Rattle.std.proofs.Common.{◌≡◌, ℕ, zero, suc, ◌+◌, ◌-◌, ◌<◌, ◌≤◌, true, false, not, ltb, leb, List, [], ◌∷◌, ◌++◌, map, length, get_or, take, drop, ℤ, pos, nat_abs, is_some, is_ok, None, Ok, sym, refl, ap, ◌∙◌, subst, inl, inr, append_assoc, add-zero, zero-add, arith, length-append, length-drop, get_or-drop, drop-drop, take_at, drop_at}
 use lib.ListN.{length-map}
-use Rattle.std.specs.List.{AllByRecursion as All}
+use Rattle.std.specs.List.{AllByRecursion as Each}
 use Rattle.std.proofs.ByRecursion.{All-get_or}
 use Rattle.std.proofs.lemmas.Bool.{and_from, and_left, and_right, cases_lt, cond-true, cond-false, le-leb, eq-eqb, le-ltb, lt-ltb}
 use Rattle.base.specs.Search.{every}
@@ -40,7 +40,7 @@ pub atoms_back : (hs : List ℕ) → map nat_abs (map pos hs) ≡ hs
 atoms_back [] = refl
 atoms_back (a ∷ hs) = ap (λ t. a ∷ t) (atoms_back hs)
 
-pub atoms_within : (n : ℕ) (hs : List ℕ) → All (Atom n) hs → every (within 1 n) (map pos hs) ≡ true
+pub atoms_within : (n : ℕ) (hs : List ℕ) → Each (Atom n) hs → every (within 1 n) (map pos hs) ≡ true
 atoms_within n [] h = refl
 atoms_within n (a ∷ hs) h = and_from _ _ (and_from _ _ (le-leb 1 a h.0.0) (le-leb a n h.0.1)) (atoms_within n hs h.1)
 
@@ -143,7 +143,7 @@ module _ (n : ℕ) (xs : List ℤ) where
   rules_back at (ρ ∷ ρs) here =
       ap (λ t. rule_from xs at ∷ t) (rules_back (at + length (encode_rule ρ)) ρs (next_here at ρ ρs here)) ∙ ap (λ t. t ∷ ρs) (rule_is n xs at ρ (encode ρs) here)
 
-  pub starts_sound : (at : ℕ) (ρs : List Rule) → drop at xs ≡ encode ρs → All (LawfulRule n) ρs → All (λ s. sound_rule n xs s ≡ true) (starts_from at ρs)
+  pub starts_sound : (at : ℕ) (ρs : List Rule) → drop at xs ≡ encode ρs → Each (LawfulRule n) ρs → Each (λ s. sound_rule n xs s ≡ true) (starts_from at ρs)
   starts_sound at [] here l = tt
   starts_sound at (ρ ∷ ρs) here l = (rule_sound n xs at ρ (encode ρs) here l.0, starts_sound (at + length (encode_rule ρ)) ρs (next_here at ρ ρs here) l.1)
 
@@ -189,11 +189,11 @@ module _ (n : ℕ) (N : Names) (h : NamesInside n N) where
 record Chained (n : ℕ) (xs : List ℤ) (ρs : List Rule) (ss : List ℕ) : Type 0 where
   spells : map (rule_from xs) ss ≡ ρs
   size : length ss ≡ length ρs
-  sound : All (λ s. sound_rule n xs s ≡ true) ss
+  sound : Each (λ s. sound_rule n xs s ≡ true) ss
   due : (i : ℕ) → i < length ss → get_or ss i 0 ≡ due_start xs ss i
   end : due_start xs ss (length ss) ≡ length xs
 
-chained : (n : ℕ) (xs : List ℤ) (ρs : List Rule) → xs ≡ encode ρs → All (LawfulRule n) ρs → Chained n xs ρs (starts_from 0 ρs)
+chained : (n : ℕ) (xs : List ℤ) (ρs : List Rule) → xs ≡ encode ρs → Each (LawfulRule n) ρs → Chained n xs ρs (starts_from 0 ρs)
 chained n xs ρs e l =
     let ss = starts_from 0 ρs in
     record {
@@ -214,7 +214,7 @@ module _ (L : RuleLists) (R : Rules) (l : Lawful R) (e : Encodes R L) where
   found : Chained L.atoms xs R.rules ss
   found =
       subst (Chained L.atoms xs R.rules) (sym e.starts)
-      (chained L.atoms xs R.rules e.integers (subst (λ n. All (LawfulRule n) R.rules) (sym e.atoms) l.each))
+      (chained L.atoms xs R.rules e.integers (subst (λ n. Each (LawfulRule n) R.rules) (sym e.atoms) l.each))
 
   sound_here : (i : ℕ) → i < length ss → sound_at L i ≡ true
   sound_here i h =

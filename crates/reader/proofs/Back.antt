@@ -1,6 +1,6 @@
 -- What was written for a book reads back as its rules.
 use Rattle.std.proofs.Common.{◌≡◌, ℕ, ◌+◌, ◌≤◌, Bool, true, false, cond, ◌||◌, ltb, List, [], ◌∷◌, ◌++◌, map, length, take, nat_abs, is_ok, Ok, Err, sym, refl, ap, ◌∙◌, arith}
-use Rattle.std.specs.List.{AllByRecursion as All}
+use Rattle.std.specs.List.{AllByRecursion as Each}
 use Rattle.std.proofs.ByRecursion.{All-weaker}
 use Rattle.std.proofs.lemmas.List.{take_at}
 use Rattle.std.proofs.lemmas.Bool.{cond-true, ltb-false}
@@ -47,7 +47,7 @@ rule_over_more n m l ρ h = record {
   short_body = h.short_body;
 }
 
-rules_fit : (n : ℕ) (ρs : List Rule) → n ≤ 1024 → All (LawfulRule n) ρs → All Fits (map rule ρs)
+rules_fit : (n : ℕ) (ρs : List Rule) → n ≤ 1024 → Each (LawfulRule n) ρs → Each Fits (map rule ρs)
 rules_fit n [] few l = tt
 rules_fit n (ρ ∷ ρs) few l = (rule_over_more n 1024 few ρ l.0, rules_fit n ρs few l.1)
 

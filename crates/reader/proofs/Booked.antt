@@ -1,7 +1,7 @@
 -- What was filled makes the book of the text.
 use Rattle.std.proofs.Common.{◌≡◌, ℕ, zero, suc, ◌+◌, ◌-◌, ◌<◌, ◌≤◌, Bool, true, false, cond, ltb, List, [], ◌∷◌, ◌++◌, map, length, get_or, take, drop, set, replicate, ℤ, nat_abs, is_ok, Some, None, Ok, Err, Result, sym, refl, ap, ◌∙◌, subst, inl, inr, arith, length-append}
 use lib.Seq.{sets, length-sets}
-use Rattle.std.specs.List.{AllByRecursion as All}
+use Rattle.std.specs.List.{AllByRecursion as Each}
 use Rattle.std.proofs.ByRecursion.{All-append}
 use Rattle.std.proofs.lemmas.List.{take_at, length-take-le, length-set, length-replicate, get_or-replicate, get_or_append_left, get_or-take, get_or_past}
 use Rattle.std.proofs.lemmas.Bool.{cases_lt, cond-true, cond-false, cond_both}
@@ -32,19 +32,19 @@ use Rattle.reader.proofs.Wholes.{never}
 
 -- The rules of statements keep the limits over the greatest atom.
 
-atoms_under : (n : ℕ) (xs : List ℕ) → greatest xs ≤ n → All (Atom 1024) xs → All (Atom n) xs
+atoms_under : (n : ℕ) (xs : List ℕ) → greatest xs ≤ n → Each (Atom 1024) xs → Each (Atom n) xs
 atoms_under n [] h l = tt
 atoms_under n (a ∷ xs) h l = ((l.0.0, omega arith), atoms_under n xs (omega arith) l.1)
 
-literals_under : (n : ℕ) (zs : List ℤ) → greatest (map nat_abs zs) ≤ n → All (Literal 1024) zs → All (Literal n) zs
+literals_under : (n : ℕ) (zs : List ℤ) → greatest (map nat_abs zs) ≤ n → Each (Literal 1024) zs → Each (Literal n) zs
 literals_under n [] h l = tt
 literals_under n (z ∷ zs) h l = ((l.0.0, omega arith), literals_under n zs (omega arith) l.1)
 
-greatest_atom : (xs : List ℕ) → All (Atom 1024) xs → greatest xs ≤ 1024
+greatest_atom : (xs : List ℕ) → Each (Atom 1024) xs → greatest xs ≤ 1024
 greatest_atom [] l = omega arith
 greatest_atom (a ∷ xs) l = omega (arith, l.0.1, greatest_atom xs l.1)
 
-greatest_literal : (zs : List ℤ) → All (Literal 1024) zs → greatest (map nat_abs zs) ≤ 1024
+greatest_literal : (zs : List ℤ) → Each (Literal 1024) zs → greatest (map nat_abs zs) ≤ 1024
 greatest_literal [] l = omega arith
 greatest_literal (z ∷ zs) l = omega (arith, l.0.1, greatest_literal zs l.1)
 
@@ -54,18 +54,18 @@ few_in (output place name zs) l = greatest_literal zs l.2
 few_in (assumption zs) l = greatest_literal zs l
 few_in (skipped kind rest) l = omega arith
 
-rules_in_lem : (n : ℕ) (s : Stmt) → greatest_in s ≤ n → Fits s → All (LawfulRule n) (rules_in s)
+rules_in_lem : (n : ℕ) (s : Stmt) → greatest_in s ≤ n → Fits s → Each (LawfulRule n) (rules_in s)
 rules_in_lem n (rule ρ) h l = (record { heads = atoms_under n ρ.head (omega arith) l.heads; literals = literals_under n ρ.body (omega arith) l.literals; short_head = l.short_head; short_body = l.short_body }, tt)
 rules_in_lem n (output place name zs) h l = tt
 rules_in_lem n (assumption zs) h l = tt
 rules_in_lem n (skipped kind rest) h l = tt
 
-few_atoms_lem : (ss : List Stmt) → All Fits ss → atoms_of ss ≤ 1024
+few_atoms_lem : (ss : List Stmt) → Each Fits ss → atoms_of ss ≤ 1024
 unfolding atoms_of
 few_atoms_lem [] l = omega arith
 few_atoms_lem (s ∷ ss) l = omega (arith, few_in s l.0, few_atoms_lem ss l.1)
 
-rules_lawful : (n : ℕ) (ss : List Stmt) → atoms_of ss ≤ n → All Fits ss → All (LawfulRule n) (rules_of ss)
+rules_lawful : (n : ℕ) (ss : List Stmt) → atoms_of ss ≤ n → Each Fits ss → Each (LawfulRule n) (rules_of ss)
 unfolding atoms_of rules_of
 rules_lawful n [] h l = tt
 rules_lawful n (s ∷ ss) h l = All-append (LawfulRule n) (rules_in s) (rules_of ss) (rules_in_lem n s (omega arith) l.0) (rules_lawful n ss (omega arith) l.1)

@@ -2,7 +2,7 @@
 use Rattle.std.proofs.Common.{◌≡◌, ℕ, ◌+◌, ◌-◌, ◌^◌, ◌<◌, ◌≤◌, true, not, eqb, ltb, ◌≢◌, ◌⊎◌, List, [], ◌∷◌, ◌++◌, map, length, get_or, take, drop, ℤ, pos, Ok, decimal, sym, refl, ap, ◌∙◌, inl, inr, one-add, arith}
 use lib.ListN.{length-map}
 use Rattle.std.specs.Fmt.{signed_decimal}
-use Rattle.std.specs.List.{prefix_len, AllByRecursion as All}
+use Rattle.std.specs.List.{prefix_len, AllByRecursion as Each}
 use Rattle.std.proofs.lemmas.Fmt.{decimal_digit}
 use Rattle.std.proofs.lemmas.List.{drop-drop, drop_at, take_at}
 use Rattle.std.proofs.lemmas.Bool.{cond-true, lt-ltb, eq-eqb, ne_eqb}
@@ -79,7 +79,7 @@ module _ (text : List ℕ) where
       ∙ rule_at_lem (at + 2) ρ rest (past_two at 49 32 (rule_bytes ρ rest) here) l
       ∙ ap (λ n. Ok (said (rule ρ) n)) (omega (arith, rule_size ρ))
 
-  assumption_read : (at : ℕ) (zs : List ℤ) (rest : List ℕ) → drop at text ≡ line_of (assumption zs) ++ rest → All (Literal 1024) zs → length zs ≤ 1024 → line_at text at ≡ Ok (said (assumption zs) (at + length (line_of (assumption zs))))
+  assumption_read : (at : ℕ) (zs : List ℤ) (rest : List ℕ) → drop at text ≡ line_of (assumption zs) ++ rest → Each (Literal 1024) zs → length zs ≤ 1024 → line_at text at ≡ Ok (said (assumption zs) (at + length (line_of (assumption zs))))
   unfolding assumption_at
   assumption_read at zs rest e l few =
       let here = e ∙ assumption_bytes zs rest in
@@ -95,7 +95,7 @@ module _ (text : List ℕ) where
       cond-true (ltb end (length text)) _ _ (lt-ltb end (length text) (omega (arith, inside text end [] 32 rest e)))
       ∙ cond-true (eqb (get_or text end 0) 32) _ _ (eq-eqb (get_or text end 0) 32 (ap (λ n. get_or text n 0) (sym at_end) ∙ byte_past text end [] 32 rest e))
 
-  output_at_lem : (at : ℕ) (name : List ℕ) (zs : List ℤ) (rest : List ℕ) → drop at text ≡ output_bytes name zs rest → length name ≤ 255 → length zs ≤ 255 → All (Literal 1024) zs → output_at text at ≡ Ok (said (output (at + length (decimal (length name)) + 1) name zs) (at + (length (decimal (length name)) + 1 + length name + 1 + (length (decimal (length zs)) + 1 + length (spaced zs)))))
+  output_at_lem : (at : ℕ) (name : List ℕ) (zs : List ℤ) (rest : List ℕ) → drop at text ≡ output_bytes name zs rest → length name ≤ 255 → length zs ≤ 255 → Each (Literal 1024) zs → output_at text at ≡ Ok (said (output (at + length (decimal (length name)) + 1) name zs) (at + (length (decimal (length name)) + 1 + length name + 1 + (length (decimal (length zs)) + 1 + length (spaced zs)))))
   unfolding output_at
   output_at_lem at name zs rest e few short l =
       let n = length name in
@@ -124,11 +124,11 @@ module _ (text : List ℕ) where
 
   -- a line that is passed over
 
-  line_front : (bytes rest : List ℕ) → All (λ b. b ≢ 10) bytes → prefix_len in_line (bytes ++ (10 ∷ rest)) ≡ length bytes
+  line_front : (bytes rest : List ℕ) → Each (λ b. b ≢ 10) bytes → prefix_len in_line (bytes ++ (10 ∷ rest)) ≡ length bytes
   line_front [] rest l = refl
   line_front (b ∷ bytes) rest l = cond-true (in_line b) _ _ (ap not (ne_eqb b 10 l.0)) ∙ (rw (one-add, line_front bytes rest l.1))
 
-  skipped_at_lem : (kind at : ℕ) (bytes rest : List ℕ) → drop at text ≡ bytes ++ (10 ∷ rest) → All (λ b. b ≢ 10) bytes → skipped_at kind text at ≡ Ok (said (skipped kind bytes) (at + length bytes + 1))
+  skipped_at_lem : (kind at : ℕ) (bytes rest : List ℕ) → drop at text ≡ bytes ++ (10 ∷ rest) → Each (λ b. b ≢ 10) bytes → skipped_at kind text at ≡ Ok (said (skipped kind bytes) (at + length bytes + 1))
   unfolding skipped_at
   skipped_at_lem kind at bytes rest e l =
       rw (e, line_front bytes rest l, lt-ltb (at + length bytes) (length text) (inside text at bytes 10 rest e), take_at bytes (10 ∷ rest) (length bytes) refl)

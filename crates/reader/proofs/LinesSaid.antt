@@ -2,7 +2,7 @@
 use Rattle.std.proofs.Common.{◌≡◌, ℕ, zero, suc, ◌+◌, ◌-◌, ◌<◌, Bool, true, false, not, eqb, ltb, ◌≢◌, List, [], ◌∷◌, ◌++◌, map, length, get_or, take, drop, ℤ, pos, negsuc, nat_abs, IfOk, Ok, Err, decimal, sym, refl, ap, ◌∙◌, subst, one-add, arith, length-drop}
 use lib.ListN.{length-map}
 use Rattle.std.specs.Fmt.{signed_decimal}
-use Rattle.std.specs.List.{prefix_len, AllByRecursion as All}
+use Rattle.std.specs.List.{prefix_len, AllByRecursion as Each}
 use Rattle.std.proofs.lemmas.Fmt.{decimal_digit}
 use Rattle.std.proofs.ByRecursion.{All-map}
 use Rattle.std.proofs.lemmas.List.{drop-drop, drop_more, take-append-drop, length-take-le}
@@ -44,7 +44,7 @@ abbrev pub LineSays : List ℕ → ℕ → Line → Type 0
 LineSays text at (ended end) = (drop at text ≡ closing ++ drop end text) × (end ≡ at + 2)
 LineSays text at (said s end) = Stands text at s end
 
-literals_fit : (zs : List ℤ) → every (is_literal 1024) zs ≡ true → All (Literal 1024) zs
+literals_fit : (zs : List ℤ) → every (is_literal 1024) zs ≡ true → Each (Literal 1024) zs
 literals_fit zs h = every_all (is_literal 1024) (Literal 1024) (is_literal_lem 1024) zs h
 
 -- head atoms have no minus
@@ -142,11 +142,11 @@ module _ (text : List ℕ) (from at : ℕ) (two : at ≡ from + 2) where
 
 -- a line that is passed over
 
-front_in_line_by : (x : ℕ) (xs : List ℕ) (b : Bool) → eqb x 10 ≡ b → All (λ c. c ≢ 10) (take (prefix_len in_line xs) xs) → All (λ c. c ≢ 10) (take (prefix_len in_line (x ∷ xs)) (x ∷ xs))
-front_in_line_by x xs true y ih = subst (λ n. All (λ c. c ≢ 10) (take n (x ∷ xs))) (sym (cond-false (in_line x) (1 + prefix_len in_line xs) 0 (ap not y))) tt
-front_in_line_by x xs false y ih = subst (λ n. All (λ c. c ≢ 10) (take n (x ∷ xs))) (sym (cond-true (in_line x) (1 + prefix_len in_line xs) 0 (ap not y) ∙ one-add (prefix_len in_line xs))) (eqb-false x 10 y, ih)
+front_in_line_by : (x : ℕ) (xs : List ℕ) (b : Bool) → eqb x 10 ≡ b → Each (λ c. c ≢ 10) (take (prefix_len in_line xs) xs) → Each (λ c. c ≢ 10) (take (prefix_len in_line (x ∷ xs)) (x ∷ xs))
+front_in_line_by x xs true y ih = subst (λ n. Each (λ c. c ≢ 10) (take n (x ∷ xs))) (sym (cond-false (in_line x) (1 + prefix_len in_line xs) 0 (ap not y))) tt
+front_in_line_by x xs false y ih = subst (λ n. Each (λ c. c ≢ 10) (take n (x ∷ xs))) (sym (cond-true (in_line x) (1 + prefix_len in_line xs) 0 (ap not y) ∙ one-add (prefix_len in_line xs))) (eqb-false x 10 y, ih)
 
-front_in_line : (xs : List ℕ) → All (λ c. c ≢ 10) (take (prefix_len in_line xs) xs)
+front_in_line : (xs : List ℕ) → Each (λ c. c ≢ 10) (take (prefix_len in_line xs) xs)
 front_in_line [] = tt
 front_in_line (x ∷ xs) = front_in_line_by x xs (eqb x 10) refl (front_in_line xs)
 
@@ -192,7 +192,7 @@ module _ (text : List ℕ) (from kind b next : ℕ) (s : Says ByKind text from (
   passable : Passable (take (rest_of text at) (drop at text))
   passable =
       let in_line_lem = front_in_line (drop at text) in
-      record { apart = λ c bs e. apart c bs (subst (All (λ x. x ≢ 10)) e in_line_lem).0 e; in_line = in_line_lem }
+      record { apart = λ c bs e. apart c bs (subst (Each (λ x. x ≢ 10)) e in_line_lem).0 e; in_line = in_line_lem }
 
   skipped_says : IfOk (skipped_at kind text at) (LineSays text from)
   unfolding skipped_at

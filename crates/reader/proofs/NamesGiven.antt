@@ -1,6 +1,6 @@
 -- The names that the lists tell are those that the outputs give, the first one for each atom.
 use Rattle.std.proofs.Common.{◌≡◌, ℕ, suc, ◌+◌, ◌-◌, ◌<◌, ◌≤◌, Bool, true, false, cond, eqb, ltb, ◌≢◌, List, [], ◌∷◌, ◌++◌, map, length, get_or, take, drop, set, ℤ, pos, negsuc, nat_abs, Some, None, codes, Option, sym, refl, ap, ◌∙◌, subst, inl, inr, append_assoc, arith, length-append, length-drop}
-use Rattle.std.specs.List.{AllByRecursion as All}
+use Rattle.std.specs.List.{AllByRecursion as Each}
 use Rattle.std.proofs.lemmas.List.{length-set, get_or-set_same, get_or-set_other, take_at}
 use Rattle.std.proofs.lemmas.Bool.{and_parts, and_from, and_right, cases_Bool, cases_lt, cond-true, cond-false, cond_both, ltb-true, eqb-true, eqb-false, eq-eqb, ne_eqb, lt-ltb}
 use Rattle.base.specs.Search.{or_else}
@@ -119,7 +119,7 @@ module _ (text : List ℕ) (i : ℕ) where
     pub room : Room (with_names N ss)
     pub told : shown text (with_names N ss) i ≡ or_else (shown text N i) (first_name (suc i) ss)
 
-  pub names_told : (N : NameLists) (ss : List Stmt) → Room N → All (InText text) ss → Told N ss
+  pub names_told : (N : NameLists) (ss : List Stmt) → Room N → Each (InText text) ss → Told N ss
   unfolding with_names
   names_told N [] room here = record { room = room; told = sym (else_none (shown text N i)) }
   names_told N (s ∷ ss) room here =
@@ -162,7 +162,7 @@ in_text text at (output place name zs) rest l e placed =
 in_text text at (assumption zs) rest l e placed = record { bytes = refl; inside = omega arith }
 in_text text at (skipped kind bytes) rest l e placed = record { bytes = refl; inside = omega arith }
 
-pub all_in_text : (text : List ℕ) (at : ℕ) (ss : List Stmt) → at ≤ length text → drop at text ≡ lines_of ss ++ closing → AllPlaced at ss → All (InText text) ss
+pub all_in_text : (text : List ℕ) (at : ℕ) (ss : List Stmt) → at ≤ length text → drop at text ≡ lines_of ss ++ closing → AllPlaced at ss → Each (InText text) ss
 unfolding lines_of
 all_in_text text at [] l e placed = tt
 all_in_text text at (s ∷ ss) l e placed =

@@ -1,6 +1,6 @@
 -- A text is read without refusal exactly where it is the program of some statements.
 use Rattle.std.proofs.Common.{◌≡◌, ℕ, zero, suc, ◌+◌, ◌<◌, ◌≤◌, true, eqb, ltb, List, [], ◌∷◌, ◌++◌, length, drop, IfOk, Ok, Err, Result, sym, refl, ap, ◌∙◌, subst, append_assoc, arith, length-append, length-drop}
-use Rattle.std.specs.List.{AllByRecursion as All}
+use Rattle.std.specs.List.{AllByRecursion as Each}
 use Rattle.std.proofs.lemmas.List.{drop_all, append-nil}
 use Rattle.std.proofs.lemmas.Bool.{and_parts, and_from, cond-true, cond_both, eq-eqb, eqb-true, ltb-false}
 use Rattle.std.proofs.lemmas.Result.{IfOk-weaker}
@@ -32,7 +32,7 @@ module _ (text : List ℕ) where
   few_assumed_lem : (C : Counts) (s : Stmt) (ss : List Stmt) → keeps (with_all C (s ∷ ss)) ≡ true → length (assumed_in s) ≤ 1024
   few_assumed_lem C s ss k = omega (arith, (grown (with_one C s) ss).assumed, assumed_kept (with_all C (s ∷ ss)) k)
 
-  statements_read : (n : ℕ) (C : Counts) (at : ℕ) (ss : List Stmt) → length ss < n → drop at text ≡ lines_of ss ++ closing → All Fits ss → AllPlaced at ss → keeps (with_all C ss) ≡ true → statements_from n C text at ≡ Ok ss
+  statements_read : (n : ℕ) (C : Counts) (at : ℕ) (ss : List Stmt) → length ss < n → drop at text ≡ lines_of ss ++ closing → Each Fits ss → AllPlaced at ss → keeps (with_all C ss) ≡ true → statements_from n C text at ≡ Ok ss
   unfolding statements_from lines_of closing
   statements_read zero C at ss few e fits placed k = absurd (omega arith)
   statements_read (suc n) C at [] few e fits placed k =
@@ -51,7 +51,7 @@ module _ (text : List ℕ) where
 
   record Lines (C : Counts) (at : ℕ) (ss : List Stmt) : Type 0 where
     written : drop at text ≡ lines_of ss ++ closing
-    fits : All Fits ss
+    fits : Each Fits ss
     placed : AllPlaced at ss
     kept : keeps (with_all C ss) ≡ true
 
@@ -88,7 +88,7 @@ module _ (text : List ℕ) where
 limits_kept : (ss : List Stmt) → WithinLimits ss → keeps (with_all nothing ss) ≡ true
 limits_kept ss w = let c = counted_together ss in kept_from (with_all nothing ss) (omega (arith, c.rules, w.few_rules)) (omega (arith, c.integers, w.few_integers)) (omega (arith, c.assumed, w.few_assumed))
 
-kept_limits : (ss : List Stmt) → All Fits ss → keeps (with_all nothing ss) ≡ true → WithinLimits ss
+kept_limits : (ss : List Stmt) → Each Fits ss → keeps (with_all nothing ss) ≡ true → WithinLimits ss
 kept_limits ss fits k =
     let c = counted_together ss in
     let C = with_all nothing ss in

@@ -1,6 +1,6 @@
 -- Program texts in words of statements: how each is written, and which texts are programs.
 use Rattle.std.specs.Prelude.{◌≡◌, ℕ, ◌+◌, ◌≤◌, max, true, ◌≢◌, List, [], ◌∷◌, ◌++◌, length, ℤ, pos, codes, decimal}
-use Rattle.std.specs.List.{AllByRecursion as All}
+use Rattle.std.specs.List.{AllByRecursion as Each}
 use Rattle.book.specs.Rules.{Rule, Literal, LawfulRule}
 use Rattle.book.specs.Encoding.{encode}
 use Rattle.aspif.specs.Texts.{heading, closing, spaced, rule_line}
@@ -54,16 +54,16 @@ sizes_of ss = record { atoms = atoms_of ss; rules = length (rules_of ss); intege
 -- bytes that may stand between a kind that is passed over and its newline
 pub record Passable (rest : List ℕ) : Type 0 where
   pub apart : (b : ℕ) (bs : List ℕ) → rest ≡ b ∷ bs → b ≡ 32
-  pub in_line : All (λ b. b ≢ 10) rest
+  pub in_line : Each (λ b. b ≢ 10) rest
 
 abbrev pub Fits : Stmt → Type 0
 Fits (rule ρ) = LawfulRule 1024 ρ
-Fits (output place name zs) = (length name ≤ 255) × (length zs ≤ 255) × All (Literal 1024) zs
-Fits (assumption zs) = All (Literal 1024) zs
+Fits (output place name zs) = (length name ≤ 255) × (length zs ≤ 255) × Each (Literal 1024) zs
+Fits (assumption zs) = Each (Literal 1024) zs
 Fits (skipped kind rest) = (passed_over kind ≡ true) × Passable rest
 
 pub record WithinLimits (ss : List Stmt) : Type 0 where
-  pub each : All Fits ss
+  pub each : Each Fits ss
   pub few_rules : length (rules_of ss) ≤ 2048
   pub few_integers : length (encode (rules_of ss)) ≤ 16384
   pub few_assumed : length (assumed_of ss) ≤ 1024

@@ -38,7 +38,7 @@ lists_answer L room = accepted (numbers_verdict L) (written (write_answer (numbe
 
 -- how many bytes the text has; with room in the lists for what is read
 abbrev pub rewrite_answer : List ℕ → (Counts → Bool) → ℕ → Result ℕ Fault
-rewrite_answer text listRoom room = after_reading (read_answer text listRoom) (written (write_answer (rules_in text) room))
+rewrite_answer text list_room room = after_reading (read_answer text list_room) (written (write_answer (rules_in text) room))
 
 -- What is put in place of a text that cannot be had: the line of the refusal.
 

@@ -1,7 +1,7 @@
 -- The flags that a list of literals sets.
 use Rattle.std.proofs.Common.{◌≡◌, ℕ, zero, suc, ◌<◌, ◌≤◌, Bool, true, false, ◌||◌, eqb, List, [], ◌∷◌, map, length, set, ℤ, pos, negsuc, nat_abs, None, sym, refl, ap, ◌∙◌, inl, inr, arith}
 use mathlib.Core.Path.{fun_ext}
-use Rattle.std.specs.List.{AllByRecursion as All}
+use Rattle.std.specs.List.{AllByRecursion as Each}
 use Rattle.book.specs.Rules.{Rules}
 use Rattle.std.proofs.lemmas.List.{length-set, get_or-set_same, get_or-set_other}
 use Rattle.std.proofs.lemmas.Bool.{cases_eq, eq-eqb, ne_eqb}
@@ -39,13 +39,13 @@ or_none false = refl
 abbrev Within : ℕ → ℤ → Type 0
 Within n z = nat_abs z < n
 
-pub positives_flagged : (zs : List ℤ) (flags : List Bool) (n : ℕ) → length flags ≡ n → All (Within n) zs → (a : ℕ) → flagged (with_positives flags zs) a ≡ (flagged flags a || positives zs a)
+pub positives_flagged : (zs : List ℤ) (flags : List Bool) (n : ℕ) → length flags ≡ n → Each (Within n) zs → (a : ℕ) → flagged (with_positives flags zs) a ≡ (flagged flags a || positives zs a)
 positives_flagged [] flags n size l a = or_none (flagged flags a)
 positives_flagged (pos p ∷ zs) flags n size l a =
     positives_flagged zs (set flags p true) n (length-set flags p true ∙ size) l.1 a ∙ ap (λ b. b || positives zs a) (flag_set flags p a (omega (arith, l.0))) ∙ or_shift (eqb a p) (flagged flags a) (positives zs a)
 positives_flagged (negsuc p ∷ zs) flags n size l a = positives_flagged zs flags n size l.1 a
 
-pub negatives_flagged : (zs : List ℤ) (flags : List Bool) (n : ℕ) → length flags ≡ n → All (Within n) zs → (a : ℕ) → flagged (with_negatives flags zs) a ≡ (flagged flags a || negatives zs a)
+pub negatives_flagged : (zs : List ℤ) (flags : List Bool) (n : ℕ) → length flags ≡ n → Each (Within n) zs → (a : ℕ) → flagged (with_negatives flags zs) a ≡ (flagged flags a || negatives zs a)
 negatives_flagged [] flags n size l a = or_none (flagged flags a)
 negatives_flagged (pos p ∷ zs) flags n size l a = negatives_flagged zs flags n size l.1 a
 negatives_flagged (negsuc p ∷ zs) flags n size l a =
@@ -59,7 +59,7 @@ assumed_marking (b ∷ flags) (suc a) = assumed_marking flags a
 -- a list without fault, put into flags of which none is set
 
 module _ (R : Rules) (zs : List ℤ) (few : R.atoms ≤ 1024) (e : first_fault R zs ≡ None) (flags : List Bool) (size : length flags ≡ 1025) (none : (a : ℕ) → flagged flags a ≡ false) where
-  in_range : All (Within 1025) zs
+  in_range : Each (Within 1025) zs
   in_range = all_from (Within 1025) zs (λ z i. omega (arith, known R zs e z i, few))
 
   pub answer_put : flagged (with_positives flags zs) ≡ positives zs

@@ -1,6 +1,6 @@
 -- An honest helper is never shut out.
 use Rattle.std.proofs.Common.{◌≡◌, true, List, [], ◌∷◌, ◌++◌, map, sym, refl, subst, inl, inr}
-use Rattle.std.specs.List.{AllByRecursion as All}
+use Rattle.std.specs.List.{AllByRecursion as Each}
 use Rattle.std.proofs.lemmas.Bool.{cases_Bool}
 use Rattle.book.specs.Rules.{Rules}
 use Rattle.sheet.specs.declared.done.Done.TheVariants.{Entered}
@@ -17,7 +17,7 @@ use Rattle.sheet.proofs.Entering.{marks_added, enter_taken, enter_marked}
 module _ (R : Rules) where
   -- a list that is grounded above marks that the sheet has is entered, but for atoms that are marked already
   pub welcome : (Ps : List Proposal) (m : Marks) (s : State) → s.opened ≡ true → Agrees s.answer (marks s) → Part m (marks s) →
-      Grounded R s.answer m Ps → All EnteredOrMarked (run R s (map Enter Ps)).0
+      Grounded R s.answer m Ps → Each EnteredOrMarked (run R s (map Enter Ps)).0
   welcome [] m s is_open g h w = tt
   welcome (P ∷ Ps) m s is_open g h w =
       let A = s.answer in
@@ -25,7 +25,7 @@ module _ (R : Rules) where
       let p = P.atom in
       let t = with_entries s (s.entries ++ (P ∷ [])) in
       let side = grounds_side R A m p P.reason w.0.grounds in
-      let Meets : After (Unit {0}) → Type 0 = λ o. EnteredOrMarked (answered (λ _. Entered) o.0) × All EnteredOrMarked (run R o.1 (map Enter Ps)).0 in
+      let Meets : After (Unit {0}) → Type 0 = λ o. EnteredOrMarked (answered (λ _. Entered) o.0) × Each EnteredOrMarked (run R o.1 (map Enter Ps)).0 in
       elim (cases_Bool (is_unmarked (n p))) [
         | inl u ↦
             let allowed : Allowed R A n P = record { atom = w.0.atom; unmarked = is_unmarked_lem (n p) u; grounds = grounds_more R A m n h p P.reason w.0.grounds } in

@@ -1,6 +1,6 @@
 -- From look-ups at a book to what they say of its rules.
 use Rattle.std.proofs.Common.{◌≡◌, ℕ, ◌<◌, Bool, true, false, not, ◌&&◌, ◌||◌, List, [], ◌∷◌, length, ℤ, is_some, Some, None, Option, sym, refl, ap, ◌∙◌, subst, arith}
-use Rattle.std.specs.List.{AllByRecursion as All, slice_get}
+use Rattle.std.specs.List.{AllByRecursion as Each, slice_get}
 use Rattle.base.specs.Search.{least, every}
 use Rattle.base.proofs.Search.{least_found, least_end}
 use Rattle.book.specs.Rules.{Rule, kind_of, head_size, body_size, head_atom}
@@ -37,7 +37,7 @@ module _ (test : ℤ → Bool) where
 -- something is found exactly where an element passes
 
 module _ {X : Type 0} (p : X → Bool) where
-  none_some : (xs : List X) → All (λ x. p x ≡ false) xs → some p xs ≡ false
+  none_some : (xs : List X) → Each (λ x. p x ≡ false) xs → some p xs ≡ false
   none_some [] h = refl
   none_some (x ∷ xs) h = ap (λ b. b || some p xs) h.0 ∙ none_some xs h.1
 

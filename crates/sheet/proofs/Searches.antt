@@ -1,6 +1,6 @@
 -- What a search for the first number, or the first place of a list, has found.
 use Rattle.std.proofs.Common.{◌≡◌, ℕ, zero, suc, ◌<◌, Bool, true, false, cond, ◌⊎◌, List, [], ◌∷◌, length, Some, None, Option, sym, refl, ap, ◌∙◌, subst, inl, inr, arith}
-use Rattle.std.specs.List.{AllByRecursion as All, slice_get}
+use Rattle.std.specs.List.{AllByRecursion as Each, slice_get}
 use Rattle.base.specs.Search.{least, or_else}
 use Rattle.base.proofs.Search.{none_passes, none_found}
 use Rattle.sheet.specs.Lists.{passes}
@@ -33,15 +33,15 @@ passes_at p (Some x) e = (x, refl, e)
 
 -- no place is found exactly where no element passes
 module _ {X : Type 0} (p : X → Bool) where
-  pub none_at : (xs : List X) → least (λ i. passes p (slice_get xs i)) (length xs) ≡ None → All (λ x. p x ≡ false) xs
+  pub none_at : (xs : List X) → least (λ i. passes p (slice_get xs i)) (length xs) ≡ None → Each (λ x. p x ≡ false) xs
   none_at xs e =
       all_from (λ x. p x ≡ false) xs
       (λ x j. let k = in_nth xs x j in sym (ap (passes p) k.2) ∙ none_passes (λ i. passes p (slice_get xs i)) (length xs) k.0 k.1 e)
 
-  fails_at : (xs : List X) (i : ℕ) → All (λ x. p x ≡ false) xs → passes p (slice_get xs i) ≡ false
+  fails_at : (xs : List X) (i : ℕ) → Each (λ x. p x ≡ false) xs → passes p (slice_get xs i) ≡ false
   fails_at [] i h = refl
   fails_at (x ∷ xs) zero h = h.0
   fails_at (x ∷ xs) (suc i) h = fails_at xs i h.1
 
-  pub at_none : (xs : List X) → All (λ x. p x ≡ false) xs → least (λ i. passes p (slice_get xs i)) (length xs) ≡ None
+  pub at_none : (xs : List X) → Each (λ x. p x ≡ false) xs → least (λ i. passes p (slice_get xs i)) (length xs) ≡ None
   at_none xs h = none_found (λ i. passes p (slice_get xs i)) (length xs) (λ i _. fails_at xs i h)

@@ -3,7 +3,7 @@ use Rattle.std.proofs.Common.{◌≡◌, ℕ, zero, suc, ◌+◌, ◌<◌, ◌�
 use mathlib.Core.Path.{fun_ext}
 use lib.ListN.{length-map}
 use Rattle.std.proofs.ByRecursion.{All-take}
-use Rattle.std.specs.List.{AllByRecursion as All}
+use Rattle.std.specs.List.{AllByRecursion as Each}
 use Rattle.std.proofs.lemmas.List.{length-set, take-append-drop, get_or_past, get_or-set_same, get_or-set_other}
 use Rattle.std.proofs.lemmas.Bool.{cases_eq, cases_lt, eq-eqb, ne_eqb, cond-true, cond-false, true≢false}
 use Rattle.sheet.specs.declared.mark.Mark.{Mark}
@@ -73,14 +73,14 @@ module _ (ms : List Mark) (P : Proposal) (l : P.atom < length ms) where
 
 -- Marking again from the assumed atoms on.
 
-pub marks_again : (es : List Proposal) (ms : List Mark) (m : Marks) (n : ℕ) → length ms ≡ n → All (λ P. P.atom < n) es → ((a : ℕ) → marking ms a ≡ m a) → (a : ℕ) → marking (with_marks ms es) a ≡ marked_all m es a
+pub marks_again : (es : List Proposal) (ms : List Mark) (m : Marks) (n : ℕ) → length ms ≡ n → Each (λ P. P.atom < n) es → ((a : ℕ) → marking ms a ≡ m a) → (a : ℕ) → marking (with_marks ms es) a ≡ marked_all m es a
 marks_again [] ms m n size l tied a = tied a
 marks_again (P ∷ es) ms m n size l tied a =
     marks_again es (set ms P.atom (mark_for (claim P.reason))) (marked m P) n (length-set ms P.atom _ ∙ size) l.1
     (λ b. ap (λ f. f b) (mark_set ms P (omega (arith, l.0))) ∙ ap (λ f. marked f P b) (fun_ext tied)) a
 
 -- an entry's atom is marked, so it has a place in the list
-pub entries_in_range : (ms : List Mark) (m : Marks) (es : List Proposal) → ((a : ℕ) → marking ms a ≡ marked_all m es a) → All (λ P. P.atom < length ms) es
+pub entries_in_range : (ms : List Mark) (m : Marks) (es : List Proposal) → ((a : ℕ) → marking ms a ≡ marked_all m es a) → Each (λ P. P.atom < length ms) es
 entries_in_range ms m es tied =
     all_from (λ P. P.atom < length ms) es (λ P i. elim (cases_lt P.atom (length ms)) [
       | inl l ↦ l
@@ -113,4 +113,4 @@ room_above m es k ms ns l tied above room =
 pub again_above : (assumed : List Bool) (es : List Proposal) (k : ℕ) (ms : List Mark) → length ms ≡ 1025 → length assumed ≡ 1025 → ((a : ℕ) → marking ms a ≡ marked_all (assuming (flagged assumed)) es a) → (a : ℕ) → marking (with_marks (map mark_assumed assumed) (take k es)) a ≡ marked_all (assuming (flagged assumed)) (take k es) a
 again_above assumed es k ms size as_many tied =
     marks_again (take k es) (map mark_assumed assumed) (assuming (flagged assumed)) 1025 (length-map assumed mark_assumed ∙ as_many)
-    (All-take (λ P. P.atom < 1025) k es (subst (λ n. All (λ P. P.atom < n) es) size (entries_in_range ms (assuming (flagged assumed)) es tied))) (assumed_marking assumed)
+    (All-take (λ P. P.atom < 1025) k es (subst (λ n. Each (λ P. P.atom < n) es) size (entries_in_range ms (assuming (flagged assumed)) es tied))) (assumed_marking assumed)

@@ -1,6 +1,6 @@
 -- When a proposal is allowed, and what a grounded list of proposals is.
 use Rattle.std.specs.Prelude.{◌≡◌, ℕ, Bool, true, false, List, [], ◌∷◌, Some, None, Option}
-use Rattle.std.specs.List.{AllByRecursion as All}
+use Rattle.std.specs.List.{AllByRecursion as Each}
 use Rattle.book.specs.Rules.{Rule, Rules, rule_at, Atom}
 use Rattle.book.specs.declared.kind.Kind.{Kind}
 use Rattle.book.specs.declared.kind.Kind.TheVariants.{Plain, Choice}
@@ -30,7 +30,7 @@ pub record Supports (A : Atoms) (m : Marks) (p : ℕ) (ρ : Rule) : Type 0 where
 -- Lack of support: the atom is outside the answer, and every rule with it in the head has a body literal that fails.
 pub record Unsupported (R : Rules) (A : Atoms) (m : Marks) (p : ℕ) : Type 0 where
   pub outside : A p ≡ false
-  pub failing : All (λ ρ. has ρ.head p ≡ true → body_fails m ρ ≡ true) R.rules
+  pub failing : Each (λ ρ. has ρ.head p ≡ true → body_fails m ρ ≡ true) R.rules
 
 -- Required by a rule: the atom is outside the answer, the rule is a constraint with it positive in the body, and every
 -- literal there other than it holds.

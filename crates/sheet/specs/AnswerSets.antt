@@ -1,6 +1,6 @@
 -- What an answer set of a book is.
 use Rattle.std.specs.Prelude.{◌≡◌, ℕ, Bool, true, false, not, ◌&&◌, ◌||◌, List}
-use Rattle.std.specs.List.{AllByRecursion as All}
+use Rattle.std.specs.List.{AllByRecursion as Each}
 use Rattle.base.specs.Search.{every}
 use Rattle.book.specs.Rules.{Rule, Rules}
 use Rattle.book.specs.declared.kind.Kind.{Kind}
@@ -36,10 +36,10 @@ pub record Smaller (M A : Atoms) : Type 0 where
   pub absent : M missing ≡ false
 
 abbrev pub Unbroken : Rules → Atoms → Type 0
-Unbroken R A = All (λ ρ. broken A ρ ≡ false) R.rules
+Unbroken R A = Each (λ ρ. broken A ρ ≡ false) R.rules
 
 abbrev pub KeepsAll : Rules → Atoms → Atoms → Type 0
-KeepsAll R M A = All (λ ρ. keeps M A ρ ≡ true) R.rules
+KeepsAll R M A = Each (λ ρ. keeps M A ρ ≡ true) R.rules
 
 pub record AnswerSet (R : Rules) (A : Atoms) : Type 0 where
   pub unbroken : Unbroken R A

@@ -1,6 +1,6 @@
 -- The law over every list of calls on one sheet.
 use Rattle.std.specs.Prelude.{◌≡◌, ℕ, Bool, true, false, not, ◌||◌, ◌⊎◌, List, map, Ok, Err}
-use Rattle.std.specs.List.{AllByRecursion as All}
+use Rattle.std.specs.List.{AllByRecursion as Each}
 use Rattle.book.specs.Rules.{Rules, Lawful, Atom}
 use Rattle.sheet.specs.declared.done.Done.TheVariants.{Entered}
 use Rattle.sheet.specs.declared.error.SheetError.TheVariants.{AlreadyMarked}
@@ -45,7 +45,7 @@ pub record Reliable (R : Rules) (s : State) : Type 0 where
   pub marked : (a : ℕ) → is_unmarked (marks s a) ≡ not (s.assumed a || has_entry s.entries a)
   -- an honest helper is never shut out: on an open sheet every grounded list, entered next in its order,
   -- one call after another whatever each answers, meets no refusal but that an atom is marked already;
-  pub helper : s.opened ≡ true → (Ps : List Proposal) → Grounded R s.answer (assumed_marks s) Ps → All EnteredOrMarked (run R s (map Enter Ps)).0
+  pub helper : s.opened ≡ true → (Ps : List Proposal) → Grounded R s.answer (assumed_marks s) Ps → Each EnteredOrMarked (run R s (map Enter Ps)).0
   -- complete, called next on an open sheet, does not mislead.
   pub complete : s.opened ≡ true → Honest R s (complete_call R s)
 

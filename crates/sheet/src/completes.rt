@@ -1,7 +1,7 @@
 // Completing a sheet.
 ghost use Rattle.std.specs.Prelude.{◌≡◌, ◌≤◌, if◌then◌else◌};
 ghost use Rattle.sheet.specs.declared.proposal.Reason.TheVariants.{Support as BySupport, Required as ByRequired};
-ghost use Rattle.sheet.specs.Complete.{admits as admitting, lowest, first_reason, enter_first, round as rounding, rounds as roundsOf, complete_call};
+ghost use Rattle.sheet.specs.Complete.{admits as admitting, lowest, first_reason, enter_first, round as rounding, rounds as rounds_of, complete_call};
 ghost use Rattle.sheet.specs.Kept.{marking};
 ghost use Rattle.sheet.specs.Lists.{how_many};
 ghost use Rattle.sheet.specs.Marks.{is_unmarked};
@@ -104,7 +104,7 @@ impl<'b, B: Book> Sheet<'b, B> {
 
     // Rounds until one enters nothing, at most so many.
     fn rounds(&mut self, most: u32)
-        ensures { view B.meaning self.new ≡ changing (λ R s. roundsOf R most s) (view B.meaning self.old) }
+        ensures { view B.meaning self.new ≡ changing (λ R s. rounds_of R most s) (view B.meaning self.old) }
     {
         for _turn in 0..most {
             let before = self.entries.len();
