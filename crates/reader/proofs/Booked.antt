@@ -21,13 +21,13 @@ use Rattle.reader.specs.Statements.{Stmt, rule, output, assumption, skipped, gre
 use Rattle.reader.specs.Program.{lines_of, rules_of, atoms_of, sizes_of, Fits, Program}
 use Rattle.reader.specs.Fill.{atom_named, name_place, name_size, NameLists, both, fresh, with_name, with_names, listed}
 use Rattle.reader.specs.Read.{statements_of, has_room, room_tested, read_answer, after_read, unnamed, integers_after, starts_after, names_after}
-use Rattle.reader.specs.ReadLaw.{first_name, Fronts, BookOf, FillsTheBook}
+use Rattle.reader.specs.ReadLaw.{integers_together, starts_together, names_together, first_name, Fronts, BookOf, FillsTheBook}
 use Rattle.reader.specs.declared.pieces.Counts.{Counts}
 use Rattle.reader.proofs.NamesGiven.{shown, Told, names_told, none_named, all_in_text}
 use Rattle.reader.proofs.Programs.{reads_exactly_programs}
 use Rattle.reader.proofs.Surveyed.{Roomy, roomy}
 use Rattle.reader.proofs.Starting.{starts_length}
-use Rattle.reader.proofs.Together.{answer_together, integers_together, starts_together, names_together}
+use Rattle.reader.proofs.Together.{said_together}
 use Rattle.reader.proofs.Wholes.{never}
 
 -- The rules of statements keep the limits over the greatest atom.
@@ -131,20 +131,9 @@ module _ (text : List ℕ) (ss : List Stmt) (p : Program text ss) (places length
   pub name_inside : (i : ℕ) → i < atoms_of ss → 0 < get_or after.lengths i 0 → get_or after.starts i 0 + get_or after.lengths i 0 ≤ length text
   name_inside i h = (told i h).room.inside
 
--- What is left in the lists, of all statements together.
-
-abbrev integers_left : List Stmt → List ℤ → List ℤ
-integers_left ss xs = sets xs 0 (encode (rules_of ss))
-
-abbrev starts_left : List Stmt → List ℕ → List ℕ
-starts_left ss xs = sets xs 0 (starts_from 0 (rules_of ss))
-
-abbrev names_left : List Stmt → List ℕ → List ℕ → NameLists
-names_left ss starts lengths = with_names (both (unnamed (atoms_of ss) starts) (unnamed (atoms_of ss) lengths)) ss
-
 -- The lists as a book.
 
-module _ (text : List ℕ) (ss : List Stmt) (p : Program text ss) (integers : List ℤ) (starts places lengths : List ℕ) (assumed : ℕ) (room : Roomy (sizes_of ss) (length integers) (length starts) (length places) (length lengths) assumed) (L : RuleLists) (f : Fronts (sizes_of ss) text (integers_left ss integers) (starts_left ss starts) (names_left ss places lengths).starts (names_left ss places lengths).lengths L) where
+module _ (text : List ℕ) (ss : List Stmt) (p : Program text ss) (integers : List ℤ) (starts places lengths : List ℕ) (assumed : ℕ) (room : Roomy (sizes_of ss) (length integers) (length starts) (length places) (length lengths) assumed) (L : RuleLists) (f : Fronts (sizes_of ss) text (integers_together ss integers) (starts_together ss starts) (names_together ss places lengths).starts (names_together ss places lengths).lengths L) where
   encodes : Encodes (rules_book ss) L
   encodes =
       let n = atoms_of ss in
@@ -213,7 +202,7 @@ answered_by text room C (Ok ss) e h = let q = room_passed room (sizes_of ss) C (
 answered_by text room C (Err x) e h = never h
 
 answered : (text : List ℕ) (room : Counts → Bool) (C : Counts) → read_answer text room ≡ Ok C → Answered text room C (listed (statements_of text))
-answered text room C h = answered_by text room C (statements_of text) refl (sym (answer_together text room) ∙ h)
+answered text room C h = answered_by text room C (statements_of text) refl (sym ((said_together text).answer room) ∙ h)
 
 module _ (text : List ℕ) (integers : List ℤ) (starts places lengths : List ℕ) (assumed : ℕ) where
   abbrev room_for : Counts → Bool
@@ -222,28 +211,29 @@ module _ (text : List ℕ) (integers : List ℤ) (starts places lengths : List �
   abbrev said : List Stmt
   said = listed (statements_of text)
 
-  fills_the_book : (r : Result Counts TextError) → r ≡ read_answer text room_for → FillsTheBook r text (after_read r (integers_left said integers) integers) (after_read r (starts_left said starts) starts) (after_read r (names_left said places lengths).starts places) (after_read r (names_left said places lengths).lengths lengths)
+  fills_the_book : (r : Result Counts TextError) → r ≡ read_answer text room_for → FillsTheBook r text (after_read r (integers_together said integers) integers) (after_read r (starts_together said starts) starts) (after_read r (names_together said places lengths).starts places) (after_read r (names_together said places lengths).lengths lengths)
   fills_the_book (Ok D) e C L h f =
       let same : D ≡ C = cc in
       let a = answered text room_for C (sym e ∙ ap Ok same) in
-      let DIs : C ≡ sizes_of said = sym a.sizes in
+      let counted : C ≡ sizes_of said = sym a.sizes in
       book_of_lem text said ((reads_exactly_programs text).only_programs_are_read said a.saying) integers starts places lengths assumed
       (roomy (sizes_of said) _ _ _ _ _ (ap room_for a.sizes ∙ a.fits))
-      L (subst (λ E. Fronts E text (integers_left said integers) (starts_left said starts) (names_left said places lengths).starts (names_left said places lengths).lengths L) DIs f)
+      L (subst (λ E. Fronts E text (integers_together said integers) (starts_together said starts) (names_together said places lengths).starts (names_together said places lengths).lengths L) counted f)
   fills_the_book (Err x) e C L h f = never h
 
   -- with the lists as they are found afterwards
   pub found_book : (r : Result Counts TextError) → r ≡ read_answer text room_for → (xs : List ℤ) (ns ps ls : List ℕ) → xs ≡ after_read r (integers_after said integers) integers → ns ≡ after_read r (starts_after said starts) starts → ps ≡ after_read r (names_after said places lengths).starts places → ls ≡ after_read r (names_after said places lengths).lengths lengths → FillsTheBook r text xs ns ps ls
   found_book r e xs ns ps ls ex en ep el C L h f =
-      let integers_are = ex ∙ ap (λ l. after_read r l integers) (integers_together said integers) in
-      let starts_are = en ∙ ap (λ l. after_read r l starts) (starts_together said starts) in
-      let places_are = ep ∙ ap (λ (N : NameLists). after_read r N.starts places) (names_together said places lengths) in
-      let lengths_are = el ∙ ap (λ (N : NameLists). after_read r N.lengths lengths) (names_together said places lengths) in
+      let together = said_together text in
+      let integers_left = ex ∙ ap (λ l. after_read r l integers) (together.integers said integers) in
+      let starts_left = en ∙ ap (λ l. after_read r l starts) (together.starts said starts) in
+      let places_left = ep ∙ ap (λ (N : NameLists). after_read r N.starts places) (together.names said places lengths) in
+      let lengths_left = el ∙ ap (λ (N : NameLists). after_read r N.lengths lengths) (together.names said places lengths) in
       fills_the_book r e C L h (record {
         all_atoms = f.all_atoms;
-        rule_integers = f.rule_integers ∙ ap (take C.integers) integers_are;
-        rule_starts = f.rule_starts ∙ ap (take C.rules) starts_are;
+        rule_integers = f.rule_integers ∙ ap (take C.integers) integers_left;
+        rule_starts = f.rule_starts ∙ ap (take C.rules) starts_left;
         name_text = f.name_text;
-        name_starts = f.name_starts ∙ ap (take C.atoms) places_are;
-        name_lengths = f.name_lengths ∙ ap (take C.atoms) lengths_are;
+        name_starts = f.name_starts ∙ ap (take C.atoms) places_left;
+        name_lengths = f.name_lengths ∙ ap (take C.atoms) lengths_left;
       })

@@ -1,5 +1,5 @@
 -- What statements hold together, part by part and counted.
-use Rattle.std.proofs.Common.{ℤ, ◌≡◌, ℕ, ◌+◌, ◌≤◌, max, Bool, true, leb, List, [], ◌∷◌, ◌++◌, length, Ok, Err, Result, sym, refl, ap, ◌∙◌, append_assoc, arith, length-append}
+use Rattle.std.proofs.Common.{◌≡◌, ℕ, ◌+◌, ◌≤◌, max, Bool, true, leb, List, [], ◌∷◌, ◌++◌, length, Ok, Err, Result, sym, refl, ap, ◌∙◌, append_assoc, arith, length-append}
 use native.Mathlib.Nat.{max-zero}
 use Rattle.std.proofs.lemmas.Bool.{and_parts, and_from, le-leb, leb-true}
 use lib.Seq.{sets}
@@ -11,7 +11,8 @@ use Rattle.reader.specs.Statements.{Stmt, rules_in, assumed_in}
 use Rattle.reader.specs.Scan.{nothing, with_one, with_all, keeps, counts_of}
 use Rattle.reader.specs.Fill.{both, with_names, parts_in, starts_in}
 use Rattle.reader.specs.Program.{rules_of, assumed_of, atoms_of, sizes_of}
-use Rattle.reader.specs.Read.{statements_of, room_tested, read_answer, unnamed, integers_after, starts_after, names_after}
+use Rattle.reader.specs.Read.{statements_of, room_tested, read_answer, unnamed, integers_after, starts_after, assumed_after, names_after}
+use Rattle.reader.specs.ReadLaw.{SaidTogether}
 use Rattle.reader.specs.declared.pieces.Counts.{Counts}
 use Rattle.reader.specs.declared.pieces.Part.TheVariants.{Integers, Assumed}
 use Rattle.reader.proofs.Starting.{starts_length}
@@ -84,23 +85,15 @@ pub answer_is : (text : List ℕ) (room : Counts → Bool) (r : Result Counts Te
 unfolding read_answer
 answer_is text room r e = ap (λ q. and_then q (room_tested room)) e
 
-pub answer_together : (text : List ℕ) (room : Counts → Bool) → read_answer text room ≡ and_then (statements_of text) (λ ss. room_tested room (sizes_of ss))
-unfolding read_answer
-answer_together text room = answer_by room (statements_of text)
-
--- What is left in the lists, of all statements together.
-
-pub integers_together : (ss : List Stmt) (xs : List ℤ) → integers_after ss xs ≡ sets xs 0 (encode (rules_of ss))
-unfolding integers_after
-integers_together ss xs = ap (sets xs 0) (integers_are ss)
-
-pub starts_together : (ss : List Stmt) (xs : List ℕ) → starts_after ss xs ≡ sets xs 0 (starts_from 0 (rules_of ss))
-unfolding starts_after
-starts_together ss xs = ap (sets xs 0) (starts_are 0 ss)
-
-pub names_together : (ss : List Stmt) (places lengths : List ℕ) → names_after ss places lengths ≡ with_names (both (unnamed (atoms_of ss) places) (unnamed (atoms_of ss) lengths)) ss
-unfolding names_after
-names_together ss places lengths = ap (λ n. with_names (both (unnamed n places) (unnamed n lengths)) ss) (counted_together ss).atoms
+pub said_together : (text : List ℕ) → SaidTogether text
+unfolding read_answer integers_after starts_after assumed_after names_after
+said_together text = record {
+  answer = λ room. answer_by room (statements_of text);
+  integers = λ ss xs. ap (sets xs 0) (integers_are ss);
+  starts = λ ss xs. ap (sets xs 0) (starts_are 0 ss);
+  assumed = λ ss xs. ap (sets xs 0) (assumed_are ss);
+  names = λ ss places lengths. ap (λ n. with_names (both (unnamed n places) (unnamed n lengths)) ss) (counted_together ss).atoms;
+}
 
 -- The limits hold of all statements together exactly where they hold of what was counted.
 

@@ -1,20 +1,47 @@
 -- The laws of reading, in words of statements.
-use Rattle.std.specs.Prelude.{◌≡◌, ℕ, ◌≤◌, cond, List, [], ◌∷◌, map, length, take, ℤ, Some, None, Ok, Option, Result, ◌==◌}
+use Rattle.std.specs.Prelude.{◌≡◌, ℕ, ◌≤◌, Bool, cond, List, [], ◌∷◌, map, length, take, ℤ, Some, None, Ok, Option, Result, ◌==◌}
+use Rattle.std.proofs.lemmas.List.Edits.{sets}
 use Rattle.book.specs.Rules.{Rules, Lawful}
+use Rattle.book.specs.Encoding.{encode, starts_from}
 use Rattle.numbers.specs.Numbers.{numbers_verdict, numbers_book, numbers_name}
 use Rattle.numbers.specs.declared.lists.RuleLists.{RuleLists}
 use Rattle.aspif.specs.Write.{write_answer, write_into}
 use Rattle.aspif.specs.declared.error.TextError.{TextError}
+use Rattle.reader.specs.Fields.{and_then}
 use Rattle.reader.specs.Statements.{Stmt, rule, output, assumption, skipped}
-use Rattle.reader.specs.Program.{rules_of, atoms_of, Program}
-use Rattle.reader.specs.Fill.{listed, atom_named}
-use Rattle.reader.specs.Read.{statements_of}
+use Rattle.reader.specs.Program.{rules_of, assumed_of, atoms_of, sizes_of, Program}
+use Rattle.reader.specs.Fill.{NameLists, both, with_names, listed, atom_named}
+use Rattle.reader.specs.Read.{statements_of, room_tested, read_answer, unnamed, integers_after, starts_after, assumed_after, names_after}
 use Rattle.reader.specs.declared.pieces.Counts.{Counts}
 
 -- A text is read without refusal exactly where it is the program of some statements, and then as those.
 pub record ReadsExactlyPrograms (text : List ℕ) : Type 0 where
   pub programs_are_read : (ss : List Stmt) → Program text ss → statements_of text ≡ Ok ss
   pub only_programs_are_read : (ss : List Stmt) → statements_of text ≡ Ok ss → Program text ss
+
+-- What is answered and left in the lists, of the rules, assumed literals and greatest atom of all statements together.
+
+abbrev pub answer_together : List ℕ → (Counts → Bool) → Result Counts TextError
+answer_together text room = and_then (statements_of text) (λ ss. room_tested room (sizes_of ss))
+
+abbrev pub integers_together : List Stmt → List ℤ → List ℤ
+integers_together ss xs = sets xs 0 (encode (rules_of ss))
+
+abbrev pub starts_together : List Stmt → List ℕ → List ℕ
+starts_together ss xs = sets xs 0 (starts_from 0 (rules_of ss))
+
+abbrev pub assumed_together : List Stmt → List ℤ → List ℤ
+assumed_together ss xs = sets xs 0 (assumed_of ss)
+
+abbrev pub names_together : List Stmt → List ℕ → List ℕ → NameLists
+names_together ss places lengths = with_names (both (unnamed (atoms_of ss) places) (unnamed (atoms_of ss) lengths)) ss
+
+pub record SaidTogether (text : List ℕ) : Type 0 where
+  pub answer : (room : Counts → Bool) → read_answer text room ≡ answer_together text room
+  pub integers : (ss : List Stmt) (xs : List ℤ) → integers_after ss xs ≡ integers_together ss xs
+  pub starts : (ss : List Stmt) (xs : List ℕ) → starts_after ss xs ≡ starts_together ss xs
+  pub assumed : (ss : List Stmt) (xs : List ℤ) → assumed_after ss xs ≡ assumed_together ss xs
+  pub names : (ss : List Stmt) (places lengths : List ℕ) → names_after ss places lengths ≡ names_together ss places lengths
 
 -- What `write` put at the front of a buffer, for a book with any rules, is read as those rules.
 abbrev pub WrittenReadsBack : List ℕ → Type 0

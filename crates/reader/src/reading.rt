@@ -3,7 +3,7 @@ ghost use Rattle.std.specs.Prelude.{◌≡◌, ◌≤◌, true, length, replicat
 ghost use Rattle.std.proofs.lemmas.List.Edits.{sets};
 ghost use Rattle.reader.specs.Fill.{listed};
 ghost use Rattle.reader.specs.Read.{begins, statements_of, has_room, read_answer, after_read, EveryTextHasItsVerdict, integers_after, starts_after, names_after, assumed_after};
-ghost use Rattle.reader.specs.ReadLaw.{ReadsExactlyPrograms, WrittenReadsBack, FillsTheBook};
+ghost use Rattle.reader.specs.ReadLaw.{ReadsExactlyPrograms, SaidTogether, WrittenReadsBack, FillsTheBook};
 ghost use Rattle.reader.specs.Scan.{nothing, counts_of};
 ghost use Rattle.aspif.specs.Texts.{heading};
 
@@ -109,6 +109,7 @@ pub fn read(
     ensures assumed { assumed.new ≡ after_read result (assumed_after (listed (statements_of text.now)) assumed.old) assumed.old }
     ensures verdict { EveryTextHasItsVerdict text.now }
     ensures programs { ReadsExactlyPrograms text.now }
+    ensures together { SaidTogether text.now }
     ensures back { WrittenReadsBack text.now }
     ensures book { FillsTheBook result text.now integers.new starts.new places.new lengths.new }
 {

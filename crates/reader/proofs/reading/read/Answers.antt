@@ -4,7 +4,7 @@ use Rattle.reader.proofs.Back.{written_reads_back}
 use Rattle.reader.proofs.Booked.{as_before, found_book}
 use Rattle.reader.proofs.Forward.{every_text_has_its_verdict}
 use Rattle.reader.proofs.Programs.{reads_exactly_programs}
-use Rattle.reader.proofs.Together.{answer_is}
+use Rattle.reader.proofs.Together.{answer_is, said_together}
 use Rattle.reader.proofs.reading.read.Goals as goal
 
 pub returns-in_err-counts : goal.returns-in_err-counts
@@ -27,6 +27,7 @@ returns-in_err-counts c =
       assumed = as_before r x _ c.args.assumed.now refused;
       verdict = every_text_has_its_verdict text;
       programs = reads_exactly_programs text;
+      together = said_together text;
       back = written_reads_back text;
       book = found_book text c.args.integers.now c.args.starts.now c.args.places.now c.args.lengths.now (length c.args.assumed.now) r answer _ _ _ _ integers starts places lengths;
     }
@@ -44,6 +45,7 @@ returns-then-not-has_room c =
       assumed = refl;
       verdict = every_text_has_its_verdict text;
       programs = reads_exactly_programs text;
+      together = said_together text;
       back = written_reads_back text;
       book = found_book text c.args.integers.now c.args.starts.now c.args.places.now c.args.lengths.now (length c.args.assumed.now) (Err TooShort) answer _ _ _ _ refl refl refl refl;
     }
@@ -61,6 +63,7 @@ returns c =
       assumed = c.fill_all.ensures.assumed;
       verdict = every_text_has_its_verdict text;
       programs = reads_exactly_programs text;
+      together = said_together text;
       back = written_reads_back text;
       book = found_book text c.args.integers.now c.args.starts.now c.args.places.now c.args.lengths.now (length c.args.assumed.now) (Ok c.in_ok-counts.counts) answer _ _ _ _ c.fill_all.ensures.integers c.fill_all.ensures.starts c.fill_all.ensures.places c.fill_all.ensures.lengths;
     }

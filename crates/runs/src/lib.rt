@@ -1,0 +1,7 @@
+// Sheets that are made, called and looked at.
+#![tactic(auto)]
+
+#[cfg(test)]
+mod books;
+#[cfg(test)]
+mod sheets;
