@@ -1,11 +1,11 @@
 -- The integers of a rule place by place, and the text that they make.
-use Rattle.std.proofs.Common.{◌≡◌, ℕ, zero, suc, ◌+◌, ◌<◌, ◌≤◌, List, [], ◌∷◌, ◌++◌, map, length, drop, ℤ, pos, Some, None, Option, sym, refl, ap, ◌∙◌, arith, length-append}
+use Rattle.std.proofs.Common.{◌≡◌, ℕ, zero, suc, ◌+◌, ◌<◌, ◌≤◌, List, [], ◌∷◌, ◌++◌, map, length, drop, ℤ, pos, Some, None, Option, sym, refl, ap, ◌∙◌, arith}
 use lib.ListN.{length-map}
 use Rattle.std.specs.List.{slice_get}
 use Rattle.std.specs.Option.{option_map}
 use Rattle.std.proofs.lemmas.List.{at_drop_all}
 use Rattle.base.proofs.Places.{nth_append_left, nth_append_right, nth_map, pieces_more}
-use Rattle.book.specs.Rules.{Rule, head_size, body_size, head_atom}
+use Rattle.book.specs.Rules.{Rule, head_size, head_atom}
 use Rattle.book.specs.Encoding.{encode}
 use Rattle.aspif.specs.Texts.{spaced, rule_lines}
 use Rattle.aspif.specs.Integers.{encode_in, body_in, spaced_in, line_in}
@@ -15,18 +15,7 @@ two_more y z xs zero j e = absurd (omega arith)
 two_more y z xs (suc zero) j e = absurd (omega arith)
 two_more y z xs (suc (suc i)) j e = let h : i ≡ j = omega arith in ap (slice_get xs) h
 
-pub count_here : (o : Option Rule) (h b : ℕ) → Some h ≡ head_size o → Some b ≡ body_size o → length (encode_in o) ≡ 4 + h + b
-count_here None h b e f = let z : ◌≡◌ {A = ℕ} 0 1 = cc in absurd (omega arith)
-count_here (Some ρ) h b e f =
-    let s : h ≡ length ρ.head = cc in
-    let t : b ≡ length ρ.body = cc in
-    simp (length-append, length-map) (omega arith)
-
 module _ (h : ℕ) where
-  pub size_here : (o : Option Rule) → Some h ≡ head_size o → Some (pos h) ≡ slice_get (encode_in o) 1
-  size_here None e = let z : ◌≡◌ {A = ℕ} 0 1 = cc in absurd (omega arith)
-  size_here (Some ρ) e = ap (option_map pos) e
-
   pub head_here : (o : Option Rule) (i j : ℕ) → Some h ≡ head_size o → i ≡ 2 + j → j < h → option_map pos (head_atom o j) ≡ slice_get (encode_in o) i
   head_here None i j e k l = let z : ◌≡◌ {A = ℕ} 0 1 = cc in absurd (omega arith)
   head_here (Some ρ) i j e k l =
@@ -39,10 +28,6 @@ module _ (h : ℕ) where
   body_here (Some ρ) i j e k =
       let s : h ≡ length ρ.head = cc in
       sym (two_more _ _ _ i (h + j) (omega arith) ∙ nth_append_right (map pos ρ.head) (body_in (Some ρ)) (h + j) j (simp length-map (omega arith)))
-
-pub body_size_here : (o : Option Rule) (b : ℕ) → Some b ≡ body_size o → Some (pos b) ≡ slice_get (body_in o) 1
-body_size_here None b e = let z : ◌≡◌ {A = ℕ} 0 1 = cc in absurd (omega arith)
-body_size_here (Some ρ) b e = ap (option_map pos) e
 
 -- A text as it is made: integer by integer, and line by line.
 
@@ -64,6 +49,3 @@ lines_all ρs i h = at_drop_all rule_lines ρs i h
 
 pub encode_more : (ρs : List Rule) (i : ℕ) → i < length ρs → encode (drop i ρs) ≡ encode_in (slice_get ρs i) ++ encode (drop (i + 1) ρs)
 encode_more = pieces_more encode encode_in (λ ρ ρs. refl)
-
-pub encode_all : (ρs : List Rule) (i : ℕ) → length ρs ≤ i → encode (drop i ρs) ≡ []
-encode_all ρs i h = at_drop_all encode ρs i h

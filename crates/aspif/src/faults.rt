@@ -7,18 +7,18 @@ use crate::error::TextError;
 use base::refusal::Refusal;
 use base::short::TooShort;
 
-impl TextError {
-    pub fn refusal(&self) -> Refusal
-        ensures { result ≡ refusal_of self.now }
-    {
-        let (number, first) = match self {
+impl From<TextError> for Refusal {
+    ghost from_gives = { λ e r. r ≡ refusal_of e };
+
+    fn from(error: TextError) -> Refusal {
+        let (number, first) = match error {
             TextError::WrongHeading => (1, 0),
-            TextError::Malformed(at) => (2, *at),
-            TextError::Unsupported(at) => (3, *at),
-            TextError::DisjunctiveHead(at) => (4, *at),
-            TextError::UnknownAtom(at) => (5, *at),
-            TextError::OverLimit(at) => (6, *at),
-            TextError::UnexpectedEnd(at) => (7, *at),
+            TextError::Malformed(at) => (2, at),
+            TextError::Unsupported(at) => (3, at),
+            TextError::DisjunctiveHead(at) => (4, at),
+            TextError::UnknownAtom(at) => (5, at),
+            TextError::OverLimit(at) => (6, at),
+            TextError::UnexpectedEnd(at) => (7, at),
             TextError::TooShort => (17, 0),
         };
         Refusal {

@@ -5,5 +5,4 @@ pub mod error;
 pub mod faults;
 mod integers;
 mod puts;
-mod sizes;
 pub mod writer;

@@ -1,95 +1,66 @@
-// The text of a book, put into a buffer that has room for it.
-ghost use Rattle.std.specs.Prelude.{◌≡◌, ◌+◌, ◌≤◌, length, Ok};
-ghost use Rattle.std.proofs.lemmas.List.Edits.{sets};
+// The text of a book, piece by piece.
 ghost use Rattle.std.specs.List.{slice_get};
+ghost use Rattle.base.specs.Sinks.{Takes};
 ghost use Rattle.book.specs.Rules.{rule_at};
 ghost use Rattle.aspif.specs.Texts.{heading, closing, spaced, rule_lines, text_of};
 ghost use Rattle.aspif.specs.Integers.{encode_in, spaced_in, line_in};
 
 use crate::integers::{integer, integer_count};
-use base::bytes::{put_bytes, put_number};
+use base::printed::Printed;
 use base::short::TooShort;
+use base::sink::Sink;
 use book::book::Book;
 
-fn put_integer<B: Book>(
-    out: &mut [u8],
-    at: usize,
-    book: &B,
-    rule: u32,
-    i: u32,
-) -> Result<usize, TooShort>
-    requires { at + length (spaced_in (slice_get (encode_in (rule_at (B.meaning book.now) rule)) i)) ≤ length out.old }
-    ensures end { result ≡ Ok (at + length (spaced_in (slice_get (encode_in (rule_at (B.meaning book.now) rule)) i))) }
-    ensures list { out.new ≡ sets out.old at (spaced_in (slice_get (encode_in (rule_at (B.meaning book.now) rule)) i)) }
+fn put_integer<S: Sink, B: Book>(sink: &mut S, book: &B, rule: u32, at: u32) -> Result<(), TooShort>
+    ensures { Takes S.fits S.after sink.old (spaced_in (slice_get (encode_in (rule_at (B.meaning book.now) rule)) at)) result sink.new }
 {
-    match integer(book, rule, i) {
+    match integer(book, rule, at) {
         Some(z) => {
-            out[at] = b' ';
-            let size = put_number(out, at + 1, i64::from(z))?;
-            Ok(at + 1 + size)
+            sink.put(b" ")?;
+            sink.put_number(i64::from(z))
         }
-        None => Ok(at),
+        None => Ok(()),
     }
 }
 
-fn put_integers<B: Book>(out: &mut [u8], at: usize, book: &B, rule: u32) -> Result<usize, TooShort>
-    requires { at + length (spaced (encode_in (rule_at (B.meaning book.now) rule))) ≤ length out.old }
-    ensures end { result ≡ Ok (at + length (spaced (encode_in (rule_at (B.meaning book.now) rule)))) }
-    ensures list { out.new ≡ sets out.old at (spaced (encode_in (rule_at (B.meaning book.now) rule))) }
+fn put_integers<S: Sink, B: Book>(sink: &mut S, book: &B, rule: u32) -> Result<(), TooShort>
+    ensures { Takes S.fits S.after sink.old (spaced (encode_in (rule_at (B.meaning book.now) rule))) result sink.new }
 {
-    let mut to = at;
-    for i in 0..integer_count(book, rule) {
-        to = put_integer(out, to, book, rule, i)?;
+    for at in 0..integer_count(book, rule) {
+        put_integer(sink, book, rule, at)?;
     }
-    Ok(to)
+    Ok(())
 }
 
-fn put_line<B: Book>(out: &mut [u8], at: usize, book: &B, rule: u32) -> Result<usize, TooShort>
-    requires { at + length (line_in (rule_at (B.meaning book.now) rule)) ≤ length out.old }
-    ensures end { result ≡ Ok (at + length (line_in (rule_at (B.meaning book.now) rule))) }
-    ensures list { out.new ≡ sets out.old at (line_in (rule_at (B.meaning book.now) rule)) }
+fn put_line<S: Sink, B: Book>(sink: &mut S, book: &B, rule: u32) -> Result<(), TooShort>
+    ensures { Takes S.fits S.after sink.old (line_in (rule_at (B.meaning book.now) rule)) result sink.new }
 {
-    out[at] = b'1';
-    let end = put_integers(out, at + 1, book, rule)?;
-    out[end] = b'\n';
-    Ok(end + 1)
+    sink.put(b"1")?;
+    put_integers(sink, book, rule)?;
+    sink.put(b"\n")
 }
 
-fn put_lines<B: Book>(out: &mut [u8], at: usize, book: &B) -> Result<usize, TooShort>
-    requires { at + length (rule_lines (B.meaning book.now).rules) ≤ length out.old }
-    ensures end { result ≡ Ok (at + length (rule_lines (B.meaning book.now).rules)) }
-    ensures list { out.new ≡ sets out.old at (rule_lines (B.meaning book.now).rules) }
+fn put_lines<S: Sink, B: Book>(sink: &mut S, book: &B) -> Result<(), TooShort>
+    ensures { Takes S.fits S.after sink.old (rule_lines (B.meaning book.now).rules) result sink.new }
 {
-    let mut to = at;
     for rule in 0..book.rules() {
-        to = put_line(out, to, book, rule)?;
+        put_line(sink, book, rule)?;
     }
-    Ok(to)
+    Ok(())
 }
 
-fn put_heading(out: &mut [u8]) -> Result<usize, TooShort>
-    requires { length heading ≤ length out.old }
-    ensures end { result ≡ Ok (length heading) }
-    ensures list { out.new ≡ sets out.old 0 heading }
-{
-    put_bytes(out, 0, b"asp 1 0 0\n")
+// The text of a book: a heading, a line for each rule, and a closing line.
+#[derive(Clone, Copy)]
+pub(crate) struct ProgramText<'b, B: Book> {
+    pub book: &'b B,
 }
 
-fn put_closing(out: &mut [u8], at: usize) -> Result<usize, TooShort>
-    requires { at + length closing ≤ length out.old }
-    ensures end { result ≡ Ok (length closing) }
-    ensures list { out.new ≡ sets out.old at closing }
-{
-    put_bytes(out, at, b"0\n")
-}
+impl<'b, B: Book> Printed for ProgramText<'b, B> {
+    ghost text = { λ t. text_of (B.Book.meaning t.book.now) };
 
-pub(crate) fn put_text<B: Book>(out: &mut [u8], book: &B) -> Result<usize, TooShort>
-    requires { length (text_of (B.meaning book.now)) ≤ length out.old }
-    ensures end { result ≡ Ok (length (text_of (B.meaning book.now))) }
-    ensures list { out.new ≡ sets out.old 0 (text_of (B.meaning book.now)) }
-{
-    let start = put_heading(out)?;
-    let end = put_lines(out, start, book)?;
-    let last = put_closing(out, end)?;
-    Ok(end + last)
+    fn print<S: Sink>(&self, sink: &mut S) -> Result<(), TooShort> {
+        sink.put(b"asp 1 0 0\n")?;
+        put_lines(sink, self.book)?;
+        sink.put(b"0\n")
+    }
 }

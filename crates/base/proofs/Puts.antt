@@ -1,21 +1,12 @@
--- What is put into a buffer piece by piece, and how long a number is in decimal.
-use Rattle.std.proofs.Common.{◌≡◌, ℕ, ◌+◌, ◌/◌, ◌%◌, ◌^◌, ◌<◌, ◌≤◌, List, [], ◌∷◌, ◌++◌, length, take, drop, set, decimal, sym, ap, ◌∙◌, append_assoc, add-zero, add-suc, suc-add, zero-add, arith, drop-drop}
+-- What is put into a list piece by piece.
+use Rattle.std.proofs.Common.{◌≡◌, ℕ, suc, ◌+◌, ◌^◌, ◌<◌, ◌≤◌, List, ◌++◌, length, length-set, take, drop, set, decimal, ℤ, pos, negsuc, nat_abs, sym, refl, ap, ◌∙◌, append_assoc, zero-add, arith, drop-drop, take-append-drop}
 use lib.Seq.{sets, sets-eq}
-use Rattle.std.proofs.lemmas.List.{length_push}
-use Rattle.std.proofs.lemmas.Fmt.{decimal_digit, decimal_step, length-decimal-le}
+use Rattle.std.specs.Fmt.{signed_decimal}
+use Rattle.std.proofs.lemmas.Fmt.{decimal_nonempty}
 use borrow.Rule.Slice.PartMut.{put_mid}
-
-pub sets_append : {X : Type 0} (l : List X) (i : ℕ) (vs ws : List X) → sets l i (vs ++ ws) ≡ sets (sets l i vs) (i + length vs) ws
-sets_append l i [] ws = rw add-zero
-sets_append l i (v ∷ vs) ws = sets_append (set l i v) _ vs ws ∙ rw (suc-add, ← add-suc)
-
--- four pieces, each after the one before
-pub sets_four : {X : Type 0} (l l1 l2 l3 l4 ps bs cs ds : List X) (i j k m : ℕ) → j ≡ i + length ps → k ≡ j + length bs → m ≡ k + length cs → l1 ≡ sets l i ps → l2 ≡ sets l1 j bs → l3 ≡ sets l2 k cs → l4 ≡ sets l3 m ds → l4 ≡ sets l i (ps ++ (bs ++ (cs ++ ds)))
-sets_four l l1 l2 l3 l4 ps bs cs ds i j k m e f g p q r t =
-    let a = sets_append l i ps (bs ++ (cs ++ ds)) in
-    let b = sets_append (sets l i ps) (i + length ps) bs (cs ++ ds) in
-    let c = sets_append (sets (sets l i ps) (i + length ps) bs) (i + length ps + length bs) cs ds in
-    cc
+use Rattle.std.proofs.lemmas.Bool.Decides.{nat_tests}
+use Rattle.base.specs.Printed.{front_into}
+use Rattle.base.specs.Puts.{with_sign, put_into}
 
 -- from the front: what was put, and then what stood there before
 pub sets_front : {X : Type 0} (l vs : List X) → length vs ≤ length l → sets l 0 vs ≡ vs ++ drop (length vs) l
@@ -27,17 +18,25 @@ sets_part a k l vs ws e m h =
     ap (put_mid a k l) e ∙ ap (λ n. take a l ++ (vs ++ drop n (drop a l))) m ∙ ap (λ t. take a l ++ (vs ++ t)) (drop-drop (length vs) a l)
     ∙ sym (append_assoc (take a l) vs (drop (a + length vs) l)) ∙ sym (sets-eq vs l a (omega arith))
 
-pub length_digit : (n : ℕ) → n < 10 → length (decimal n) ≡ 1
-length_digit n h = ap length (decimal_digit n h)
+-- what is written to the end of a place, between what stood before it and after it
+pub sets_written : {X : Type 0} (l m vs : List X) (i e : ℕ) → i + length vs ≡ e → e ≤ length l → take i m ≡ take i l → drop i m ≡ vs ++ drop e l → m ≡ sets l i vs
+sets_written l m vs i e s h before behind =
+    sym (take-append-drop i m) ∙ ap (◌++ drop i m) before ∙ ap (λ t. take i l ++ t) behind ∙ ap (λ k. take i l ++ (vs ++ drop k l)) (sym s)
+    ∙ sym (append_assoc (take i l) vs (drop (i + length vs) l)) ∙ sym (sets-eq vs l i (omega arith))
 
-pub length_step : (n : ℕ) → 10 ≤ n → n < 2 ^ 64 → length (decimal n) ≡ length (decimal (n / 10)) + 1
-length_step n h k = ap length (decimal_step n h k) ∙ length_push (decimal (n / 10)) _
+pub length_sign : (l : List ℕ) (at : ℕ) (z : ℤ) → length (with_sign l at z) ≡ length l
+length_sign l at (pos n) = refl
+length_sign l at (negsuc n) = length-set l at 45
 
-pub length_20 : (n : ℕ) → n < 2 ^ 64 → length (decimal n) ≤ 20
-length_20 n h = length-decimal-le 20 n (omega arith) (omega arith) h
+pub signed_nonempty : (z : ℤ) → nat_abs z < 2 ^ 64 → 0 < length (signed_decimal z)
+signed_nonempty (pos n) h = decimal_nonempty n h
+signed_nonempty (negsuc n) h = omega arith
 
-pub sets_digit : (l : List ℕ) (i n : ℕ) → n < 10 → sets l i (decimal n) ≡ set l i (48 + n)
-sets_digit l i n h = ap (sets l i) (decimal_digit n h)
+-- a number is its sign and then its digits
+pub sets_number : (l m : List ℕ) (z : ℤ) (r at : ℕ) → r + length (decimal (nat_abs z)) ≡ at + length (signed_decimal z) → m ≡ sets (with_sign l at z) r (decimal (nat_abs z)) → m ≡ sets l at (signed_decimal z)
+sets_number l m (pos n) r at e s = let same : r ≡ at = omega arith in s ∙ ap (λ k. sets l k (decimal n)) same
+sets_number l m (negsuc n) r at e s = let same : r ≡ suc at = omega arith in s ∙ ap (λ k. sets (set l at 45) k (decimal (suc n))) same
 
-pub sets_step : (l : List ℕ) (i n : ℕ) → 10 ≤ n → n < 2 ^ 64 → sets l i (decimal n) ≡ set (sets l i (decimal (n / 10))) (i + length (decimal (n / 10))) (48 + n % 10)
-sets_step l i n h k = ap (sets l i) (decimal_step n h k) ∙ sets_append l i (decimal (n / 10)) _
+-- what is put from the front on stands before what was there
+pub put_front : (l m bs : List ℕ) → m ≡ put_into l 0 bs → m ≡ front_into bs l
+put_front l m bs e = grind (arith, nat_tests, sets_front {X = ℕ})

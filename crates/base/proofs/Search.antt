@@ -1,18 +1,14 @@
 -- The steps of a loop that looks for the first number that passes a test, and what it found.
-use Rattle.std.proofs.Common.{◌≡◌, ℕ, zero, suc, ◌+◌, ◌<◌, ◌≤◌, Bool, true, false, cond, ◌&&◌, List, [], ◌∷◌, length, get_or, drop, Some, None, Option, sym, refl, ap, ◌∙◌, subst, inl, inr, add-one, arith}
-use Rattle.std.proofs.lemmas.List.{at_drop_more, at_drop_all}
-use Rattle.std.proofs.lemmas.Bool.{cases_eq, and_parts, and_from}
-use Rattle.std.specs.List.{AllByRecursion as Each}
-use Rattle.base.specs.Search.{least, or_else, every}
+use Rattle.std.proofs.Common.{◌≡◌, ℕ, zero, suc, ◌<◌, ◌≤◌, Bool, true, false, cond, List, [], ◌∷◌, Some, None, Option, sym, refl, ap, ◌∙◌, subst, inl, inr, arith}
+use Rattle.std.proofs.lemmas.Bool.{cases_eq, cases_lt, and_parts, and_from}
+use Rattle.std.specs.List.{AllByRecursion as Each, list_all}
+use Rattle.base.specs.Search.{least, or_else}
 
 -- the number n, if it passes
 abbrev last : Bool → ℕ → Option ℕ
 last b n = cond b (Some n) None
 
 module _ (p : ℕ → Bool) where
-  pub least_next : (i : ℕ) → false ≡ p i → least p i ≡ None → least p (i + 1) ≡ None
-  least_next i f e = simp add-one (ap (λ o. or_else o (last (p i) i)) e ∙ sym (ap (λ b. last b i) f))
-
   here : (i : ℕ) → true ≡ p i → least p i ≡ None → Some i ≡ least p (suc i)
   here i t e = ap (λ b. last b i) t ∙ sym (ap (λ o. or_else o (last (p i) i)) e)
 
@@ -22,9 +18,6 @@ module _ (p : ℕ → Bool) where
     | inl same ↦ subst (λ k. Some i ≡ least p (suc k)) same (here i t e)
     | inr ne ↦ ap (λ o. or_else o (last (p n) n)) (least_found i n (omega arith) t e)
   ]
-
-  pub least_end : (i n : ℕ) → i ≡ n → least p i ≡ None → None ≡ least p n
-  least_end i n same e = subst (λ k. None ≡ least p k) same (sym e)
 
 none_parts : (n : ℕ) (o : Option ℕ) (b : Bool) → or_else o (last b n) ≡ None → (o ≡ None) × (b ≡ false)
 none_parts n None true e = let z : ◌≡◌ {A = ℕ} 0 1 = cc in absurd (omega arith)
@@ -44,25 +37,24 @@ none_found p zero h = refl
 none_found p (suc n) h =
     ap (λ o. or_else o (last (p n) n)) (none_found p n (λ i l. h i (omega arith))) ∙ ap (λ b. last b n) (h n (omega arith))
 
--- the steps of a loop that tests every element
-module _ {X : Type 0} (p : X → Bool) (xs : List X) (i : ℕ) (d : X) where
-  every_step : i < length xs → every p (drop i xs) ≡ (p (get_or xs i d) && every p (drop (i + 1) xs))
-  every_step h = at_drop_more (every p) xs i d h
+-- none that passes stands below what is found
+least_le_by : (p : ℕ → Bool) (m n x : ℕ) (o : Option ℕ) (b : Bool) → p m ≡ true → least p n ≡ o → p n ≡ b → ((y : ℕ) → Some y ≡ o → y ≤ m) → Some x ≡ or_else o (last b n) → x ≤ m
+least_le_by p m n x (Some y) b t e f h g = h x g
+least_le_by p m n x None true t e f h g = let same : x ≡ n = cc in elim (cases_lt m n) [
+  | inr low ↦ omega arith
+  | inl high ↦ let z : ◌≡◌ {A = ℕ} 0 1 = cc (none_passes p n m high e) in absurd (omega arith)
+]
+least_le_by p m n x None false t e f h g = let z : ◌≡◌ {A = ℕ} 0 1 = cc in absurd (omega arith)
 
-  pub every_no : i < length xs → false ≡ p (get_or xs i d) → every p (drop i xs) ≡ every p xs → false ≡ every p xs
-  every_no h t inv = ap (λ b. b && every p (drop (i + 1) xs)) t ∙ sym (every_step h) ∙ inv
-
-  pub every_next : i < length xs → true ≡ p (get_or xs i d) → every p (drop i xs) ≡ every p xs → every p (drop (i + 1) xs) ≡ every p xs
-  every_next h t inv = ap (λ b. b && every p (drop (i + 1) xs)) t ∙ sym (every_step h) ∙ inv
-
-pub every_end : {X : Type 0} (p : X → Bool) (xs : List X) (i : ℕ) → length xs ≤ i → every p (drop i xs) ≡ every p xs → true ≡ every p xs
-every_end p xs i h inv = sym (at_drop_all (every p) xs i h) ∙ inv
+pub least_le : (p : ℕ → Bool) (m : ℕ) → p m ≡ true → (n x : ℕ) → Some x ≡ least p n → x ≤ m
+least_le p m t zero x g = let z : ◌≡◌ {A = ℕ} 0 1 = cc in absurd (omega arith)
+least_le p m t (suc n) x g = least_le_by p m n x (least p n) (p n) t refl refl (least_le p m t n) g
 
 -- where every element passes, what passing tells holds of each, and the other way round
-pub every_all : {X : Type 0} (p : X → Bool) (P : X → Type 0) → ((x : X) → p x ≡ true → P x) → (xs : List X) → every p xs ≡ true → Each P xs
+pub every_all : {X : Type 0} (p : X → Bool) (P : X → Type 0) → ((x : X) → p x ≡ true → P x) → (xs : List X) → list_all p xs ≡ true → Each P xs
 every_all p P f [] h = tt
-every_all p P f (x ∷ xs) h = let b = and_parts (p x) (every p xs) h in (f x b.0, every_all p P f xs b.1)
+every_all p P f (x ∷ xs) h = let b = and_parts (p x) (list_all p xs) h in (f x b.0, every_all p P f xs b.1)
 
-pub all_every : {X : Type 0} (p : X → Bool) (P : X → Type 0) → ((x : X) → P x → p x ≡ true) → (xs : List X) → Each P xs → every p xs ≡ true
+pub all_every : {X : Type 0} (p : X → Bool) (P : X → Type 0) → ((x : X) → P x → p x ≡ true) → (xs : List X) → Each P xs → list_all p xs ≡ true
 all_every p P f [] h = refl
-all_every p P f (x ∷ xs) h = and_from (p x) (every p xs) (f x h.0) (all_every p P f xs h.1)
+all_every p P f (x ∷ xs) h = and_from (p x) (list_all p xs) (f x h.0) (all_every p P f xs h.1)

@@ -1,5 +1,5 @@
--- Tests over numbers and lists: the first number that passes, and whether every element does.
-use Rattle.std.specs.Prelude.{ℕ, zero, suc, Bool, true, cond, ◌&&◌, List, [], ◌∷◌, Some, None, Option}
+-- The first number that passes a test.
+use Rattle.std.specs.Prelude.{ℕ, zero, suc, Bool, cond, Some, None, Option}
 
 -- what is there, or else what stands in for it
 abbrev pub or_else : {X : Type 0} → Option X → Option X → Option X
@@ -10,7 +10,3 @@ or_else (Some x) other = Some x
 abbrev pub least : (ℕ → Bool) → ℕ → Option ℕ
 least p zero = None
 least p (suc n) = or_else (least p n) (cond (p n) (Some n) None)
-
-abbrev pub every : {X : Type 0} → (X → Bool) → List X → Bool
-every p [] = true
-every p (x ∷ xs) = p x && every p xs

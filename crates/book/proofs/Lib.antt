@@ -1,3 +1,2 @@
 pub mod Facted
-pub mod Together
 pub mod Bounds

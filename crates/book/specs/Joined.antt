@@ -1,9 +1,9 @@
 -- Two books joined: the rules of the first and then those of the second.
-use Rattle.std.specs.Prelude.{ℕ, ◌+◌, max, Bool, cond, List, ◌++◌, length, None, Option, nat_le}
+use Rattle.std.specs.Prelude.{ℕ, ◌+◌, max, Bool, cond, List, ◌++◌, length, None, Some, Option, nat_le}
 use Rattle.base.specs.Search.{or_else}
 use Rattle.book.specs.Rules.{Rule, Rules, no_rules, rule_at}
 use Rattle.book.specs.declared.place.Place.{Place}
-use Rattle.book.specs.declared.place.Place.TheVariants.{First, Second, Nowhere}
+use Rattle.book.specs.declared.place.Place.TheVariants.{First, Second}
 
 -- the rules of both are not too many
 abbrev pub fit_together : Rules → Rules → Bool
@@ -19,8 +19,11 @@ joined R S = cond (fit_together R S) (both R S) no_rules
 abbrev pub joined_name : Rules → Rules → Option (List ℕ) → Option (List ℕ) → Option (List ℕ)
 joined_name R S first second = cond (fit_together R S) (or_else first second) None
 
--- the rule that a place in one of the two books stands for
+-- the rule that a place in one of the two books stands for, if there is one
 abbrev pub rule_in : Rules → Rules → Place → Option Rule
 rule_in R S (First i) = rule_at R i
 rule_in R S (Second i) = rule_at S i
-rule_in R S Nowhere = None
+
+abbrev pub rule_found : Rules → Rules → Option Place → Option Rule
+rule_found R S None = None
+rule_found R S (Some place) = rule_in R S place

@@ -21,12 +21,9 @@ fn is_sound_fact(atoms: u32, facts: &[u32], i: usize) -> bool
 fn first_faulty_fact(atoms: u32, facts: &[u32]) -> Option<u32>
     ensures { result ≡ first_faulty_fact atoms facts.now }
 {
-    for i in 0..facts.len() {
-        if !is_sound_fact(atoms, facts, i) {
-            return Some(i as u32);
-        }
-    }
-    None
+    (0..facts.len())
+        .find(|i| !is_sound_fact(atoms, facts, *i))
+        .map(|i| i as u32)
 }
 
 fn verdict(atoms: u32, facts: &[u32]) -> Result<(), BookError>
@@ -93,31 +90,19 @@ impl<'a> Book for FactBook<'a> {
     }
 
     fn kind(&self, rule: u32) -> Option<Kind> {
-        match self.fact(rule) {
-            Some(_) => Some(Kind::Plain),
-            None => None,
-        }
+        self.fact(rule).map(|_| Kind::Plain)
     }
 
     fn head_size(&self, rule: u32) -> Option<u32> {
-        match self.fact(rule) {
-            Some(_) => Some(1),
-            None => None,
-        }
+        self.fact(rule).map(|_| 1)
     }
 
     fn body_size(&self, rule: u32) -> Option<u32> {
-        match self.fact(rule) {
-            Some(_) => Some(0),
-            None => None,
-        }
+        self.fact(rule).map(|_| 0)
     }
 
     fn head(&self, rule: u32, at: u32) -> Option<u32> {
-        match self.fact(rule) {
-            Some(atom) => { if at == 0 { Some(atom) } else { None } }
-            None => None,
-        }
+        self.fact(rule).filter(|_| at == 0)
     }
 
     fn literal(&self, _rule: u32, _at: u32) -> Option<i32> {

@@ -1,7 +1,7 @@
 // The rules of one book and then those of another.
 ghost use Rattle.std.specs.Prelude.{◌≡◌};
 ghost use Rattle.book.specs.Rules.{rule_at};
-ghost use Rattle.book.specs.Joined.{fit_together, joined as joined_rules, joined_name, rule_in};
+ghost use Rattle.book.specs.Joined.{fit_together, joined as joined_rules, joined_name, rule_found};
 ghost use Rattle.book.specs.JoinedLawful.{joined_lawful};
 
 use crate::book::{Book, NamedBook};
@@ -22,17 +22,17 @@ impl<P: Book, Q: Book> JoinedBook<P, Q> {
         self.first.rules() as u64 + self.second.rules() as u64 <= 2048
     }
 
-    fn place(&self, rule: u32) -> Place
-        ensures { rule_at (joined_rules (P.Book.meaning self.now.first) (Q.Book.meaning self.now.second)) rule ≡ rule_in (P.Book.meaning self.now.first) (Q.Book.meaning self.now.second) result }
+    fn place(&self, rule: u32) -> Option<Place>
+        ensures { rule_at (joined_rules (P.Book.meaning self.now.first) (Q.Book.meaning self.now.second)) rule ≡ rule_found (P.Book.meaning self.now.first) (Q.Book.meaning self.now.second) result }
     {
         if !self.fits() {
-            return Place::Nowhere;
+            return None;
         }
         let n = self.first.rules();
         if rule < n {
-            Place::First(rule)
+            Some(Place::First(rule))
         } else {
-            Place::Second(rule - n)
+            Some(Place::Second(rule - n))
         }
     }
 }
@@ -59,42 +59,37 @@ impl<P: Book, Q: Book> Book for JoinedBook<P, Q> {
     }
 
     fn kind(&self, rule: u32) -> Option<Kind> {
-        match self.place(rule) {
+        match self.place(rule)? {
             Place::First(r) => self.first.kind(r),
             Place::Second(r) => self.second.kind(r),
-            Place::Nowhere => None,
         }
     }
 
     fn head_size(&self, rule: u32) -> Option<u32> {
-        match self.place(rule) {
+        match self.place(rule)? {
             Place::First(r) => self.first.head_size(r),
             Place::Second(r) => self.second.head_size(r),
-            Place::Nowhere => None,
         }
     }
 
     fn body_size(&self, rule: u32) -> Option<u32> {
-        match self.place(rule) {
+        match self.place(rule)? {
             Place::First(r) => self.first.body_size(r),
             Place::Second(r) => self.second.body_size(r),
-            Place::Nowhere => None,
         }
     }
 
     fn head(&self, rule: u32, at: u32) -> Option<u32> {
-        match self.place(rule) {
+        match self.place(rule)? {
             Place::First(r) => self.first.head(r, at),
             Place::Second(r) => self.second.head(r, at),
-            Place::Nowhere => None,
         }
     }
 
     fn literal(&self, rule: u32, at: u32) -> Option<i32> {
-        match self.place(rule) {
+        match self.place(rule)? {
             Place::First(r) => self.first.literal(r, at),
             Place::Second(r) => self.second.literal(r, at),
-            Place::Nowhere => None,
         }
     }
 }
@@ -106,9 +101,6 @@ impl<P: NamedBook, Q: NamedBook> NamedBook for JoinedBook<P, Q> {
         if !self.fits() {
             return None;
         }
-        match self.first.name(atom) {
-            Some(name) => Some(name),
-            None => self.second.name(atom),
-        }
+        self.first.name(atom).or_else(|| self.second.name(atom))
     }
 }

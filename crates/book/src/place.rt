@@ -1,7 +1,6 @@
-// Where a rule of two joined books stands.
+// In which of two joined books a rule stands, and where.
 #[derive(Clone, Copy)]
 pub(crate) enum Place {
     First(u32),
     Second(u32),
-    Nowhere,
 }

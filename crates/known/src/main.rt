@@ -3,6 +3,7 @@
 #![tactic(auto)]
 
 use anyhow::anyhow;
+use reader::lists::Lists;
 use report::rewriting::rewrite_or_tell;
 use std::fs;
 
@@ -26,15 +27,20 @@ fn is_as_known(rt: &HostRuntime, name: &str) -> anyhow::Result<bool> {
     let text = fs::read(rt, format!(in heap; "{name}.aspif")?)?;
     let known = fs::read(rt, format!(in heap; "{name}.rules")?)?;
     let mut out = vec![in heap; 0u8; ROOM]?;
-    let answer = rewrite_or_tell(
-        &text,
-        &mut vec![in heap; 0i32; 16_384]?,
-        &mut vec![in heap; 0u32; 2048]?,
-        &mut vec![in heap; 0u32; 1024]?,
-        &mut vec![in heap; 0u32; 1024]?,
-        &mut vec![in heap; 0i32; 1024]?,
-        &mut out,
-    );
+    // Room for every text that can be read. A call that lends five lists of what it owns would owe a promise for each.
+    let mut integers = vec![in heap; 0i32; 16_384]?;
+    let mut starts = vec![in heap; 0u32; 2048]?;
+    let mut places = vec![in heap; 0u32; 1024]?;
+    let mut lengths = vec![in heap; 0u32; 1024]?;
+    let mut assumed = vec![in heap; 0i32; 1024]?;
+    let mut lists = Lists {
+        integers: &mut integers,
+        starts: &mut starts,
+        places: &mut places,
+        lengths: &mut lengths,
+        assumed: &mut assumed,
+    };
+    let answer = rewrite_or_tell(&text, &mut lists, &mut out);
     let Ok(size) = answer else {
         return Ok(false);
     };

@@ -1,10 +1,9 @@
 -- The encoding of rules that keep the limits is accepted, and spells out those rules.
 use Rattle.std.proofs.Common.{◌≡◌, ℕ, zero, suc, ◌+◌, ◌-◌, ◌<◌, ◌≤◌, true, false, not, ltb, leb, List, [], ◌∷◌, ◌++◌, map, length, get_or, take, drop, ℤ, pos, nat_abs, is_some, is_ok, None, Ok, sym, refl, ap, ◌∙◌, subst, inl, inr, append_assoc, add-zero, zero-add, arith, length-append, length-drop, get_or-drop, drop-drop, take_at, drop_at}
 use lib.ListN.{length-map}
-use Rattle.std.specs.List.{AllByRecursion as Each}
+use Rattle.std.specs.List.{AllByRecursion as Each, list_all}
 use Rattle.std.proofs.ByRecursion.{All-get_or}
 use Rattle.std.proofs.lemmas.Bool.{and_from, and_left, and_right, cases_lt, cond-true, cond-false, le-leb, eq-eqb, le-ltb, lt-ltb}
-use Rattle.base.specs.Search.{every}
 use Rattle.base.proofs.Search.{all_every, none_found}
 use Rattle.book.specs.Rules.{Rule, Rules, Atom, Literal, LawfulRule, Lawful, head_limit}
 use Rattle.book.specs.Encoding.{head_type, encode_rule, encode, starts_from}
@@ -40,7 +39,7 @@ pub atoms_back : (hs : List ℕ) → map nat_abs (map pos hs) ≡ hs
 atoms_back [] = refl
 atoms_back (a ∷ hs) = ap (λ t. a ∷ t) (atoms_back hs)
 
-pub atoms_within : (n : ℕ) (hs : List ℕ) → Each (Atom n) hs → every (within 1 n) (map pos hs) ≡ true
+pub atoms_within : (n : ℕ) (hs : List ℕ) → Each (Atom n) hs → list_all (within 1 n) (map pos hs) ≡ true
 atoms_within n [] h = refl
 atoms_within n (a ∷ hs) h = and_from _ _ (and_from _ _ (le-leb 1 a h.0.0) (le-leb a n h.0.1)) (atoms_within n hs h.1)
 
@@ -120,8 +119,8 @@ module _ (n : ℕ) (xs : List ℤ) (s : ℕ) (ρ : Rule) (post : List ℤ) (here
       and_from _ _
       (and_from _ _ (counts_sound l) (le-leb _ _ inside))
       (and_from _ _
-      (ap (every (within 1 n)) head_is ∙ atoms_within n ρ.head l.heads)
-      (ap (every (is_literal n)) body_is ∙ all_every (is_literal n) (Literal n) (literal_passes n) ρ.body l.literals))
+      (ap (list_all (within 1 n)) head_is ∙ atoms_within n ρ.head l.heads)
+      (ap (list_all (is_literal n)) body_is ∙ all_every (is_literal n) (Literal n) (literal_passes n) ρ.body l.literals))
 
 -- where a list of rules starts at a place, and the integers from there on are its encoding
 module _ (n : ℕ) (xs : List ℤ) where

@@ -4,7 +4,8 @@ use lib.ListN.{length-map}
 use Rattle.std.proofs.lemmas.List.{drop_all, drop_more, append-nil, take-append-drop, length-take-le}
 use Rattle.std.proofs.lemmas.Bool.{and_parts, cond-true, leb-true, eqb-true, not-true}
 use Rattle.std.proofs.lemmas.Bool.Decides.{nat_tests}
-use Rattle.base.specs.Search.{least, every}
+use Rattle.std.specs.List.{list_all}
+use Rattle.base.specs.Search.{least}
 use Rattle.base.proofs.Search.{none_passes}
 use Rattle.book.specs.Rules.{no_rules}
 use Rattle.book.specs.Encoding.{head_type, encode_rule, encode, starts_from}
@@ -30,9 +31,9 @@ zero_back (pos n) h = let l = leb-true n 0 (and_parts (leb 0 n) (leb n 0) h).1 i
 zero_back (negsuc n) h = let z : ◌≡◌ {A = ℕ} 0 1 = cc in absurd (omega arith)
 
 -- integers that are atoms, as atoms and back
-pub heads_back : (n : ℕ) (zs : List ℤ) → every (within 1 n) zs ≡ true → map pos (map nat_abs zs) ≡ zs
+pub heads_back : (n : ℕ) (zs : List ℤ) → list_all (within 1 n) zs ≡ true → map pos (map nat_abs zs) ≡ zs
 heads_back n [] h = refl
-heads_back n (pos k ∷ zs) h = ap (λ t. pos k ∷ t) (heads_back n zs (and_parts (within 1 n (pos k)) (every (within 1 n) zs) h).1)
+heads_back n (pos k ∷ zs) h = ap (λ t. pos k ∷ t) (heads_back n zs (and_parts (within 1 n (pos k)) (list_all (within 1 n) zs) h).1)
 heads_back n (negsuc k ∷ zs) h = let z : ◌≡◌ {A = ℕ} 0 1 = cc in absurd (omega arith)
 
 -- two integers, a part of as many as the second counts, and the rest

@@ -1,6 +1,7 @@
 -- Lists of numbers as a book: which rules they spell out, what is wrong with them, and which book they make.
 use Rattle.std.specs.Prelude.{ℕ, zero, suc, ◌+◌, Bool, false, cond, not, ◌&&◌, List, map, length, take, drop, ℤ, pos, negsuc, is_some, is_ok, Some, None, Ok, Err, Option, Result, ◌==◌, nat_le, nat_lt, slice_index, slice_index_or, unsigned_abs}
-use Rattle.base.specs.Search.{least, every}
+use Rattle.std.specs.List.{list_all}
+use Rattle.base.specs.Search.{least}
 use Rattle.book.specs.Rules.{Rule, Rules, no_rules, head_limit}
 use Rattle.book.specs.declared.kind.Kind.{Kind}
 use Rattle.book.specs.declared.kind.Kind.TheVariants.{Plain, Choice}
@@ -68,7 +69,7 @@ sound_counts xs s =
 abbrev pub sound_rule : ℕ → List ℤ → ℕ → Bool
 sound_rule n xs s =
     (sound_counts xs s && nat_le (rule_end xs s) (length xs))
-    && (every (within 1 n) (head_part xs s) && every (is_literal n) (body_part xs s))
+    && (list_all (within 1 n) (head_part xs s) && list_all (is_literal n) (body_part xs s))
 
 -- where the rule at a place has to start: where the one before it ends
 abbrev pub due_start : List ℤ → List ℕ → ℕ → ℕ

@@ -4,7 +4,7 @@ use Rattle.std.proofs.Common.{inl, inr, arith, length-take}
 use Rattle.std.proofs.lemmas.List.{length-map}
 use Rattle.std.proofs.ByRecursion.{All-map, All-from_get_or}
 use Rattle.std.proofs.lemmas.Bool.{and_parts, leb-true, ltb-true, ltb-false, eqb-true, not-false, cases_lt}
-use Rattle.base.specs.Search.{every}
+use Rattle.std.specs.List.{list_all}
 use Rattle.base.proofs.Search.{every_all, none_passes}
 use Rattle.base.proofs.Verdicts.{ok_unless, ok_where}
 use Rattle.book.specs.Rules.{Atom, Literal, LawfulRule, Lawful, head_limit}
@@ -30,12 +30,12 @@ pub record SoundRule (n : ℕ) (xs : List ℤ) (s : ℕ) : Type 0 where
   pub body_type : within 0 0 (integer_at xs (body_start xs s)) ≡ true
   pub literals : within 0 255 (integer_at xs (body_start xs s + 1)) ≡ true
   pub inside : rule_end xs s ≤ length xs
-  pub each_head : every (within 1 n) (head_part xs s) ≡ true
-  pub each_literal : every (is_literal n) (body_part xs s) ≡ true
+  pub each_head : list_all (within 1 n) (head_part xs s) ≡ true
+  pub each_literal : list_all (is_literal n) (body_part xs s) ≡ true
 
 pub sound_parts : (n : ℕ) (xs : List ℤ) (s : ℕ) → sound_rule n xs s ≡ true → SoundRule n xs s
 sound_parts n xs s h =
-    let a = and_parts (sound_counts xs s && nat_le (rule_end xs s) (length xs)) (every (within 1 n) (head_part xs s) && every (is_literal n) (body_part xs s)) h in
+    let a = and_parts (sound_counts xs s && nat_le (rule_end xs s) (length xs)) (list_all (within 1 n) (head_part xs s) && list_all (is_literal n) (body_part xs s)) h in
     let b = and_parts (sound_counts xs s) (nat_le (rule_end xs s) (length xs)) a.0 in
     let c = and_parts _ _ b.0 in
     let d = and_parts _ _ c.0 in

@@ -4,8 +4,8 @@ ghost use Rattle.base.specs.Search.{least};
 ghost use Rattle.numbers.specs.NumbersLaw.{Faithful};
 ghost use Rattle.numbers.specs.Numbers.{due_start, sound_at, first_faulty, outside, names_fit, rest_fits, numbers_verdict};
 
-use crate::integers::{rule_end, sound_rule};
 use crate::lists::{Names, RuleLists};
+use crate::rule::RuleAt;
 use book::error::BookError;
 
 impl Names<'_> {
@@ -21,12 +21,7 @@ impl Names<'_> {
         requires { length self.now.starts.now ≡ length self.now.lengths.now }
         ensures { result ≡ is_some (least (outside self.now) (length self.now.starts.now)) }
     {
-        for i in 0..self.starts.len() {
-            if self.is_outside(i) {
-                return true;
-            }
-        }
-        false
+        (0..self.starts.len()).any(|i| self.is_outside(i))
     }
 
     fn fit(&self, atoms: u32) -> bool
@@ -37,7 +32,18 @@ impl Names<'_> {
     }
 }
 
-impl RuleLists<'_> {
+impl<'a> RuleLists<'a> {
+    // The rule that starts among the integers at a place.
+    pub(crate) fn rule_from(&self, start: u32) -> RuleAt<'a>
+        ensures integers { result.integers.now ≡ self.now.integers.now }
+        ensures start { result.start ≡ start }
+    {
+        RuleAt {
+            integers: self.integers,
+            start,
+        }
+    }
+
     // Where the rule at a place has to start.
     fn due_start(&self, rule: usize) -> usize
         requires { rule ≤ length self.now.starts.now }
@@ -46,7 +52,7 @@ impl RuleLists<'_> {
         if rule == 0 {
             return 0;
         }
-        rule_end(self.integers, self.starts[rule - 1])
+        self.rule_from(self.starts[rule - 1]).end()
     }
 
     fn is_sound_at(&self, rule: usize) -> bool
@@ -56,18 +62,15 @@ impl RuleLists<'_> {
         let start = self.starts[rule];
         rule < 2048
             && start as usize == self.due_start(rule)
-            && sound_rule(self.atoms, self.integers, start)
+            && self.rule_from(start).is_sound(self.atoms)
     }
 
     fn first_faulty(&self) -> Option<u32>
         ensures { result ≡ first_faulty self.now }
     {
-        for rule in 0..self.starts.len() {
-            if !self.is_sound_at(rule) {
-                return Some(rule as u32);
-            }
-        }
-        None
+        (0..self.starts.len())
+            .find(|rule| !self.is_sound_at(*rule))
+            .map(|rule| rule as u32)
     }
 
     fn rest_fits(&self) -> bool

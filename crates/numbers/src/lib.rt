@@ -2,6 +2,6 @@
 #![tactic(auto)]
 
 mod checks;
-mod integers;
 pub mod lists;
 pub mod numbers;
+mod rule;

@@ -1,4 +1,5 @@
 // For each atom, from 1 on, where its name starts in the text and how many bytes it has; 0 bytes: the name is absent.
+// They are two lists, since the caller lends them so.
 #[derive(Clone, Copy)]
 pub struct Names<'a> {
     pub text: &'a [u8],

@@ -7,8 +7,8 @@ ghost use Rattle.numbers.specs.NumbersLaw.{Encodes};
 ghost use Rattle.numbers.specs.Numbers.{rule_from, numbers_verdict, spelled, numbers_book, name_in, numbers_name};
 ghost use Rattle.numbers.specs.NumbersLawful.{accepted_lawful};
 
-use crate::integers::{body_part, head_part, kind_at};
 use crate::lists::{Names, RuleLists};
+use crate::rule::RuleAt;
 use base::parts::{item, item_or, part};
 use book::book::{Book, NamedBook};
 use book::kind::Kind;
@@ -50,11 +50,12 @@ impl<'a> NumbersBook<'a> {
         NumbersBook::made_of(lists)
     }
 
-    // Where a rule starts, if there is one at this place.
-    fn start(&self, rule: u32) -> Option<u32>
-        ensures { rule_at (spelled self.now.lists) rule ≡ option_map (rule_from self.now.lists.integers.now) result }
+    // The rule at a place, if there is one.
+    fn rule(&self, rule: u32) -> Option<RuleAt<'a>>
+        ensures { rule_at (spelled self.now.lists) rule ≡ option_map (λ r. rule_from r.integers.now r.start) result }
     {
-        item(self.lists.starts, rule as usize)
+        let start = item(self.lists.starts, rule as usize)?;
+        Some(self.lists.rule_from(start))
     }
 }
 
@@ -62,10 +63,7 @@ impl<'a> NumbersBook<'a> {
 fn atom_in(head: &[i32], at: u32) -> Option<u32>
     ensures { result ≡ slice_get (map unsigned_abs head.now) at }
 {
-    match item(head, at as usize) {
-        Some(z) => Some(z.unsigned_abs()),
-        None => None,
-    }
+    head.get(at as usize).map(|z| z.unsigned_abs())
 }
 
 impl<'a> Book for NumbersBook<'a> {
@@ -82,38 +80,23 @@ impl<'a> Book for NumbersBook<'a> {
     }
 
     fn kind(&self, rule: u32) -> Option<Kind> {
-        match self.start(rule) {
-            Some(start) => Some(kind_at(self.lists.integers, start)),
-            None => None,
-        }
+        self.rule(rule).map(|found| found.kind())
     }
 
     fn head_size(&self, rule: u32) -> Option<u32> {
-        match self.start(rule) {
-            Some(start) => Some(head_part(self.lists.integers, start).len() as u32),
-            None => None,
-        }
+        self.rule(rule).map(|found| found.head().len() as u32)
     }
 
     fn body_size(&self, rule: u32) -> Option<u32> {
-        match self.start(rule) {
-            Some(start) => Some(body_part(self.lists.integers, start).len() as u32),
-            None => None,
-        }
+        self.rule(rule).map(|found| found.body().len() as u32)
     }
 
     fn head(&self, rule: u32, at: u32) -> Option<u32> {
-        match self.start(rule) {
-            Some(start) => atom_in(head_part(self.lists.integers, start), at),
-            None => None,
-        }
+        atom_in(self.rule(rule)?.head(), at)
     }
 
     fn literal(&self, rule: u32, at: u32) -> Option<i32> {
-        match self.start(rule) {
-            Some(start) => item(body_part(self.lists.integers, start), at as usize),
-            None => None,
-        }
+        item(self.rule(rule)?.body(), at as usize)
     }
 }
 
@@ -121,15 +104,13 @@ impl<'a> NamedBook for NumbersBook<'a> {
     ghost naming = { λ b. name_in b.lists.names };
 
     fn name(&self, atom: u32) -> Option<&[u8]> {
-        if atom == 0 {
-            return None;
-        }
-        let i = atom as usize - 1;
-        let len = item_or(self.lists.names.lengths, i, 0);
+        let i = atom.checked_sub(1)? as usize;
+        let names = self.lists.names;
+        let len = item_or(names.lengths, i, 0);
         if len == 0 {
             return None;
         }
-        let from = item_or(self.lists.names.starts, i, 0);
-        Some(part(self.lists.names.text, from as usize, len as usize))
+        let from = item_or(names.starts, i, 0);
+        Some(part(names.text, from as usize, len as usize))
     }
 }

@@ -1,5 +1,5 @@
 -- What was filled makes the book of the text.
-use Rattle.std.proofs.Common.{◌≡◌, ℕ, zero, suc, ◌+◌, ◌-◌, ◌<◌, ◌≤◌, Bool, true, false, cond, ltb, List, [], ◌∷◌, ◌++◌, map, length, get_or, take, drop, set, replicate, ℤ, nat_abs, is_ok, Some, None, Ok, Err, Result, sym, refl, ap, ◌∙◌, subst, inl, inr, arith, length-append}
+use Rattle.std.proofs.Common.{◌≡◌, ℕ, zero, suc, ◌+◌, ◌-◌, ◌<◌, ◌≤◌, Bool, true, false, cond, eqb, ltb, List, [], ◌∷◌, ◌++◌, map, length, get_or, take, drop, set, replicate, ℤ, nat_abs, is_ok, Some, None, Ok, Err, Result, sym, refl, ap, ◌∙◌, subst, inl, inr, arith, length-append, Option}
 use lib.Seq.{sets, length-sets}
 use Rattle.std.specs.List.{AllByRecursion as Each}
 use Rattle.std.proofs.ByRecursion.{All-append}
@@ -19,14 +19,15 @@ use Rattle.aspif.specs.declared.error.TextError.TheVariants.{TooShort}
 use Rattle.reader.specs.Fields.{and_then}
 use Rattle.reader.specs.Statements.{Stmt, rule, output, assumption, skipped, greatest, greatest_in, rules_in}
 use Rattle.reader.specs.Program.{lines_of, rules_of, atoms_of, sizes_of, Fits, Program}
-use Rattle.reader.specs.Fill.{atom_named, name_place, name_size, NameLists, both, fresh, with_name, with_names, listed}
-use Rattle.reader.specs.Read.{statements_of, has_room, room_tested, read_answer, after_read, unnamed, integers_after, starts_after, names_after}
+use Rattle.reader.specs.Fill.{atom_named, name_place, name_size, NameLists, both, named_by, with_name, with_names, listed}
+use Rattle.reader.specs.Held.{Held, held_after, has_room_in}
+use Rattle.reader.specs.Read.{statements_of, room_tested, read_answer, after_read, unnamed}
 use Rattle.reader.specs.ReadLaw.{integers_together, starts_together, names_together, first_name, Fronts, BookOf, FillsTheBook}
 use Rattle.reader.specs.declared.pieces.Counts.{Counts}
 use Rattle.reader.proofs.NamesGiven.{shown, Told, names_told, none_named, all_in_text}
 use Rattle.reader.proofs.Programs.{reads_exactly_programs}
 use Rattle.reader.proofs.Surveyed.{Roomy, roomy}
-use Rattle.reader.proofs.Starting.{starts_length}
+use Rattle.reader.proofs.Wholes.{starts_length}
 use Rattle.reader.proofs.Together.{said_together}
 use Rattle.reader.proofs.Wholes.{never}
 
@@ -87,13 +88,17 @@ cleared n xs i h l =
     let size : length zeros ≡ n = length-replicate n 0 in
     ap (λ q. get_or q i 0) (sets_front xs zeros (omega arith)) ∙ get_or_append_left zeros (drop (length zeros) xs) 0 i (omega arith) ∙ get_or-replicate n i 0 0 h
 
+name_long : (N : NameLists) (s : Stmt) (o : Option ℕ) → (length (named_by N s o).starts ≡ length N.starts) × (length (named_by N s o).lengths ≡ length N.lengths)
+name_long N s None = (refl, refl)
+name_long N s (Some a) = cond_both (eqb (get_or N.lengths (a - 1) 0) 0) (record { starts = set N.starts (a - 1) (name_place s); lengths = set N.lengths (a - 1) (name_size s) }) N (λ M. (length M.starts ≡ length N.starts) × (length M.lengths ≡ length N.lengths))
+    (λ _. (length-set N.starts (a - 1) (name_place s), length-set N.lengths (a - 1) (name_size s))) (λ _. (refl, refl))
+
 names_long : (N : NameLists) (ss : List Stmt) → (length (with_names N ss).starts ≡ length N.starts) × (length (with_names N ss).lengths ≡ length N.lengths)
 unfolding with_names
 names_long N [] = (refl, refl)
 names_long N (s ∷ ss) =
     let rest = names_long (with_name N s) ss in
-    let one = cond_both (fresh N s) (record { starts = set N.starts (atom_named s - 1) (name_place s); lengths = set N.lengths (atom_named s - 1) (name_size s) }) N (λ M. (length M.starts ≡ length N.starts) × (length M.lengths ≡ length N.lengths))
-    (λ _. (length-set N.starts (atom_named s - 1) (name_place s), length-set N.lengths (atom_named s - 1) (name_size s))) (λ _. (refl, refl)) in
+    let one = name_long N s (atom_named s) in
     (rest.0 ∙ one.0, rest.1 ∙ one.1)
 
 module _ (text : List ℕ) (ss : List Stmt) (p : Program text ss) (places lengths : List ℕ) (long : atoms_of ss ≤ length places) (wide : atoms_of ss ≤ length lengths) where
@@ -204,36 +209,23 @@ answered_by text room C (Err x) e h = never h
 answered : (text : List ℕ) (room : Counts → Bool) (C : Counts) → read_answer text room ≡ Ok C → Answered text room C (listed (statements_of text))
 answered text room C h = answered_by text room C (statements_of text) refl (sym ((said_together text).answer room) ∙ h)
 
-module _ (text : List ℕ) (integers : List ℤ) (starts places lengths : List ℕ) (assumed : ℕ) where
-  abbrev room_for : Counts → Bool
-  room_for C = has_room C (length integers) (length starts) (length places) (length lengths) assumed
-
-  abbrev said : List Stmt
-  said = listed (statements_of text)
-
-  fills_the_book : (r : Result Counts TextError) → r ≡ read_answer text room_for → FillsTheBook r text (after_read r (integers_together said integers) integers) (after_read r (starts_together said starts) starts) (after_read r (names_together said places lengths).starts places) (after_read r (names_together said places lengths).lengths lengths)
-  fills_the_book (Ok D) e C L h f =
-      let same : D ≡ C = cc in
-      let a = answered text room_for C (sym e ∙ ap Ok same) in
-      let counted : C ≡ sizes_of said = sym a.sizes in
-      book_of_lem text said ((reads_exactly_programs text).only_programs_are_read said a.saying) integers starts places lengths assumed
-      (roomy (sizes_of said) _ _ _ _ _ (ap room_for a.sizes ∙ a.fits))
-      L (subst (λ E. Fronts E text (integers_together said integers) (starts_together said starts) (names_together said places lengths).starts (names_together said places lengths).lengths L) counted f)
-  fills_the_book (Err x) e C L h f = never h
-
-  -- with the lists as they are found afterwards
-  pub found_book : (r : Result Counts TextError) → r ≡ read_answer text room_for → (xs : List ℤ) (ns ps ls : List ℕ) → xs ≡ after_read r (integers_after said integers) integers → ns ≡ after_read r (starts_after said starts) starts → ps ≡ after_read r (names_after said places lengths).starts places → ls ≡ after_read r (names_after said places lengths).lengths lengths → FillsTheBook r text xs ns ps ls
-  found_book r e xs ns ps ls ex en ep el C L h f =
-      let together = said_together text in
-      let integers_left = ex ∙ ap (λ l. after_read r l integers) (together.integers said integers) in
-      let starts_left = en ∙ ap (λ l. after_read r l starts) (together.starts said starts) in
-      let places_left = ep ∙ ap (λ (N : NameLists). after_read r N.starts places) (together.names said places lengths) in
-      let lengths_left = el ∙ ap (λ (N : NameLists). after_read r N.lengths lengths) (together.names said places lengths) in
-      fills_the_book r e C L h (record {
-        all_atoms = f.all_atoms;
-        rule_integers = f.rule_integers ∙ ap (take C.integers) integers_left;
-        rule_starts = f.rule_starts ∙ ap (take C.rules) starts_left;
-        name_text = f.name_text;
-        name_starts = f.name_starts ∙ ap (take C.atoms) places_left;
-        name_lengths = f.name_lengths ∙ ap (take C.atoms) lengths_left;
-      })
+-- with the lists as they are found afterwards
+pub found_book : (text : List ℕ) (old : Held) (r : Result Counts TextError) → r ≡ read_answer text (has_room_in old) → (new : Held) → new ≡ after_read r (held_after (listed (statements_of text)) old) old → FillsTheBook r text new.integers new.starts new.places new.lengths
+found_book text old (Ok D) e new found C L h f =
+    let ss = listed (statements_of text) in
+    let same : D ≡ C = cc in
+    let a = answered text (has_room_in old) C (sym e ∙ ap Ok same) in
+    let together = said_together text in
+    let names = together.names ss old.places old.lengths in
+    let fronts : Fronts C text (integers_together ss old.integers) (starts_together ss old.starts) (names_together ss old.places old.lengths).starts (names_together ss old.places old.lengths).lengths L = record {
+      all_atoms = f.all_atoms;
+      rule_integers = f.rule_integers ∙ ap (take C.integers) (ap (λ (H : Held). H.integers) found ∙ together.integers ss old.integers);
+      rule_starts = f.rule_starts ∙ ap (take C.rules) (ap (λ (H : Held). H.starts) found ∙ together.starts ss old.starts);
+      name_text = f.name_text;
+      name_starts = f.name_starts ∙ ap (take C.atoms) (ap (λ (H : Held). H.places) found ∙ ap (λ (N : NameLists). N.starts) names);
+      name_lengths = f.name_lengths ∙ ap (take C.atoms) (ap (λ (H : Held). H.lengths) found ∙ ap (λ (N : NameLists). N.lengths) names);
+    } in
+    book_of_lem text ss ((reads_exactly_programs text).only_programs_are_read ss a.saying) old.integers old.starts old.places old.lengths (length old.assumed)
+    (roomy (sizes_of ss) _ _ _ _ _ (ap (has_room_in old) a.sizes ∙ a.fits))
+    L (subst (λ E. Fronts E text (integers_together ss old.integers) (starts_together ss old.starts) (names_together ss old.places old.lengths).starts (names_together ss old.places old.lengths).lengths L) (sym a.sizes) fronts)
+found_book text old (Err x) e new found C L h f = never h

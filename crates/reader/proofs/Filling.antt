@@ -1,85 +1,82 @@
--- The parts of a text's statements, line by line.
-use Rattle.std.proofs.Common.{◌≡◌, ℕ, suc, ◌+◌, ◌-◌, ◌<◌, ◌≤◌, true, false, List, [], ◌++◌, length, is_ok, Ok, Err, Result, sym, refl, ap, ◌∙◌, subst, arith, length-append}
-use Rattle.std.proofs.lemmas.Bool.{true≢false}
-use Rattle.aspif.specs.declared.error.TextError.{TextError}
-use Rattle.aspif.specs.declared.error.TextError.TheVariants.{UnexpectedEnd}
-use Rattle.reader.specs.Fields.{and_then}
-use Rattle.reader.specs.Statements.{Stmt}
-use Rattle.reader.specs.Lines.{Line, ended, said, line_at}
-use Rattle.reader.specs.Scan.{before}
-use Rattle.reader.specs.Fill.{said_by, said_from, listed, part_in, parts_in, line_adds, turn_of}
-use Rattle.reader.specs.declared.pieces.Part.{Part}
-use Rattle.reader.specs.declared.pieces.Turn.{Turn}
-use Rattle.reader.proofs.Tallies.{from_ok}
+-- The lists of the caller, filled statement by statement.
+use Rattle.std.proofs.Common.{◌≡◌, ℕ, ◌+◌, ◌≤◌, true, List, [], ◌∷◌, length, ℤ, sym, ap, ◌∙◌, subst, arith, length-append}
+use Rattle.base.specs.Pens.{Page, page, has_room, filled}
+use Rattle.base.specs.PensLawful.{pen_laws}
+use Rattle.base.specs.declared.pen.Pen.{Pen}
+use Rattle.book.specs.Encoding.{starts_from}
+use Rattle.reader.specs.Statements.{Stmt, rules_in}
+use Rattle.reader.specs.Fill.{integers_in, parts_in, starts_in}
 
-pub said_step : (n i : ℕ) (text : List ℕ) (at : ℕ) → i < n → said_from (n - i) text at ≡ and_then (line_at text at) (said_by (said_from (n - (i + 1)) text))
-unfolding said_from
-said_step n i text at h = let e : n - i ≡ suc (n - (i + 1)) = omega arith in ap (λ k. said_from k text at) e
+pub filled_none : {X : Type 0} (p : Pen X) (xs : List X) → xs ≡ [] → filled p xs p
+filled_none p xs e = subst (λ ys. filled p ys p) (sym e) (pen_laws.nothing p).1
 
-pub said_none : (n i : ℕ) (text : List ℕ) (at : ℕ) → n ≤ i → said_from (n - i) text at ≡ Err (UnexpectedEnd (length text))
-unfolding said_from
-said_none n i text at h = let e : n - i ≡ 0 = omega arith in ap (λ k. said_from k text at) e
+-- a part of what statements hold
 
-pub ok_rest : (s : Stmt) (r : Result (List Stmt) TextError) → is_ok (before s r) ≡ true → is_ok r ≡ true
-ok_rest s (Ok ss) h = refl
-ok_rest s (Err e) h = h
-
-pub parts_rest : (p : Part) (s : Stmt) (r : Result (List Stmt) TextError) → is_ok (before s r) ≡ true → parts_in p (listed (before s r)) ≡ part_in p s ++ parts_in p (listed r)
-unfolding parts_in
-parts_rest p s (Ok ss) h = refl
-parts_rest p s (Err e) h = let y : ◌≡◌ {A = ℕ} 0 1 = cc in absurd (omega arith)
-
--- after a line that says a statement
-pub record GoesOn (p : Part) (to : ℕ) (t : Turn) (l : Result Line TextError) (S : Result (List Stmt) TextError) (k : ℕ → Result (List Stmt) TextError) : Type 0 where
-  pub reads : is_ok (k t.at) ≡ true
-  pub adds : parts_in p (listed S) ≡ line_adds p l ++ parts_in p (listed (k t.at))
-  pub place : t.to ≡ to + length (line_adds p l)
-
--- after the closing line
-pub record Ends (p : Part) (to : ℕ) (t : Turn) (l : Result Line TextError) (S : Result (List Stmt) TextError) : Type 0 where
-  pub adds : line_adds p l ≡ []
-  pub none : parts_in p (listed S) ≡ []
-  pub place : t.to ≡ to
-
-module _ (p : Part) (to : ℕ) (k : ℕ → Result (List Stmt) TextError) where
-  goes_by : (t : Turn) (l : Result Line TextError) → Ok t ≡ turn_of p to l → t.ended ≡ false → is_ok (and_then l (said_by k)) ≡ true → GoesOn p to t l (and_then l (said_by k)) k
-  goes_by t (Ok (ended e)) h f o = let y : true ≡ false = ap (λ (q : Turn). q.ended) (sym (from_ok t _ h)) ∙ f in absurd (true≢false y)
-  goes_by t (Ok (said s e)) h f o =
-      let same = from_ok t _ h in
-      let place : t.at ≡ e = ap (λ (q : Turn). q.at) same in
-      record {
-        reads = ap (λ n. is_ok (k n)) place ∙ ok_rest s (k e) o;
-        adds = parts_rest p s (k e) o ∙ ap (λ n. part_in p s ++ parts_in p (listed (k n))) (sym place);
-        place = ap (λ (q : Turn). q.to) same;
-      }
-  goes_by t (Err x) h f o = let y : ◌≡◌ {A = ℕ} 0 1 = cc in absurd (omega arith)
-
-  pub goes_on_lem : (t : Turn) (l : Result Line TextError) (S : Result (List Stmt) TextError) → S ≡ and_then l (said_by k) → Ok t ≡ turn_of p to l → t.ended ≡ false → is_ok S ≡ true → GoesOn p to t l S k
-  goes_on_lem t l S e h f o = subst (λ R. GoesOn p to t l R k) (sym e) (goes_by t l h f (ap is_ok (sym e) ∙ o))
-
-  ends_by : (t : Turn) (l : Result Line TextError) → Ok t ≡ turn_of p to l → t.ended ≡ true → Ends p to t l (and_then l (said_by k))
+module _ {X : Type 0} (part : Stmt → List X) where
+  pub part_none : (p : Pen X) → filled p (parts_in part []) p
   unfolding parts_in
-  ends_by t (Ok (ended e)) h f = record { adds = refl; none = refl; place = ap (λ (q : Turn). q.to) (from_ok t _ h) }
-  ends_by t (Ok (said s e)) h f = let y : true ≡ false = sym f ∙ ap (λ (q : Turn). q.ended) (from_ok t _ h) in absurd (true≢false y)
-  ends_by t (Err x) h f = let y : ◌≡◌ {A = ℕ} 0 1 = cc in absurd (omega arith)
+  part_none p = (pen_laws.nothing p).1
 
-  pub ends : (t : Turn) (l : Result Line TextError) (S : Result (List Stmt) TextError) → S ≡ and_then l (said_by k) → Ok t ≡ turn_of p to l → t.ended ≡ true → Ends p to t l S
-  ends t l S e h f = subst (λ R. Ends p to t l R) (sym e) (ends_by t l h f)
+  module _ (p : Pen X) (s : Stmt) (ss : List Stmt) where
+    pub part_first : has_room (page p) (parts_in part (s ∷ ss)) ≡ true → has_room (page p) (part s) ≡ true
+    unfolding parts_in
+    part_first h = pen_laws.first p (part s) (parts_in part ss) h
 
-  room_by : (l : Result Line TextError) → is_ok (and_then l (said_by k)) ≡ true → length (line_adds p l) ≤ length (parts_in p (listed (and_then l (said_by k))))
-  room_by (Ok (ended e)) o = omega arith
-  room_by (Ok (said s e)) o = omega (arith, ap length (parts_rest p s (k e) o), length-append (part_in p s) (parts_in p (listed (k e))))
-  room_by (Err x) o = let y : ◌≡◌ {A = ℕ} 0 1 = cc in absurd (omega arith)
+    pub part_rest : (q : Pen X) → has_room (page p) (parts_in part (s ∷ ss)) ≡ true → filled p (part s) q → has_room (page q) (parts_in part ss) ≡ true
+    unfolding parts_in
+    part_rest q h e = pen_laws.rest p q (part s) (parts_in part ss) (part_first h) e ∙ h
 
-  -- what a line adds is a part of what is left
-  pub room : (l : Result Line TextError) (S : Result (List Stmt) TextError) → S ≡ and_then l (said_by k) → is_ok S ≡ true → length (line_adds p l) ≤ length (parts_in p (listed S))
-  room l S e o = subst (λ R. length (line_adds p l) ≤ length (parts_in p (listed R))) (sym e) (room_by l (ap is_ok (sym e) ∙ o))
+    pub part_then : (q r : Pen X) → filled p (part s) q → filled q (parts_in part ss) r → filled p (parts_in part (s ∷ ss)) r
+    unfolding parts_in
+    part_then q r e f = pen_laws.both p q r (part s) (parts_in part ss) e f
 
-  fault_by : (x : TextError) (l : Result Line TextError) → Err x ≡ turn_of p to l → is_ok (and_then l (said_by k)) ≡ true → ⊥
-  fault_by x (Ok (ended e)) h o = let y : ◌≡◌ {A = ℕ} 0 1 = cc in omega arith
-  fault_by x (Ok (said s e)) h o = let y : ◌≡◌ {A = ℕ} 0 1 = cc in omega arith
-  fault_by x (Err z) h o = let y : ◌≡◌ {A = ℕ} 0 1 = cc in omega arith
+-- the integers of rules, and where each rule starts
 
-  -- no line of a text that is read is refused
-  pub no_fault : (x : TextError) (l : Result Line TextError) (S : Result (List Stmt) TextError) → S ≡ and_then l (said_by k) → Err x ≡ turn_of p to l → is_ok S ≡ true → ⊥
-  no_fault x l S e h o = fault_by x l h (ap is_ok (sym e) ∙ o)
+pub record RoomFor (p : Pen ℤ) (q : Pen ℕ) (zs : List ℤ) (ns : List ℕ) : Type 0 where
+  pub integers : has_room (page p) zs ≡ true
+  pub starts : has_room (page q) ns ≡ true
+  pub few : p.at + length zs ≤ 16384
+
+pub record BothPut (p : Pen ℤ) (q : Pen ℕ) (zs : List ℤ) (ns : List ℕ) (t : Pen ℤ) (u : Pen ℕ) : Type 0 where
+  pub integers : filled p zs t
+  pub starts : filled q ns u
+
+abbrev pub RoomForRules : Pen ℤ → Pen ℕ → List Stmt → Type 0
+RoomForRules p q ss = RoomFor p q (parts_in integers_in ss) (starts_in p.at ss)
+
+abbrev pub RulesPut : Pen ℤ → Pen ℕ → List Stmt → Pen ℤ → Pen ℕ → Type 0
+RulesPut p q ss t u = BothPut p q (parts_in integers_in ss) (starts_in p.at ss) t u
+
+pub rules_none : (p : Pen ℤ) (q : Pen ℕ) → RulesPut p q [] p q
+unfolding starts_in
+rules_none p q = record { integers = part_none integers_in p; starts = (pen_laws.nothing q).1 }
+
+module _ (p : Pen ℤ) (q : Pen ℕ) (s : Stmt) (ss : List Stmt) where
+  pub rules_first : RoomForRules p q (s ∷ ss) → RoomFor p q (integers_in s) (starts_from p.at (rules_in s))
+  unfolding parts_in starts_in
+  rules_first h = record {
+    integers = part_first integers_in p s ss h.integers;
+    starts = pen_laws.first q (starts_from p.at (rules_in s)) (starts_in (p.at + length (integers_in s)) ss) h.starts;
+    few = omega (arith, h.few, length-append (integers_in s) (parts_in integers_in ss));
+  }
+
+  module _ (t : Pen ℤ) (u : Pen ℕ) (one : BothPut p q (integers_in s) (starts_from p.at (rules_in s)) t u) where
+    next_start : t.at ≡ p.at + length (integers_in s)
+    next_start = ap (λ (P : Page _). P.at) one.integers.0
+
+    pub rules_rest : RoomForRules p q (s ∷ ss) → RoomForRules t u ss
+    unfolding parts_in starts_in
+    rules_rest h =
+        let first = rules_first h in
+        record {
+          integers = part_rest integers_in p s ss t h.integers one.integers;
+          starts = ap (λ n. has_room (page u) (starts_in n ss)) next_start ∙ pen_laws.rest q u (starts_from p.at (rules_in s)) (starts_in (p.at + length (integers_in s)) ss) first.starts one.starts ∙ h.starts;
+          few = omega (arith, h.few, next_start, length-append (integers_in s) (parts_in integers_in ss));
+        }
+
+    pub rules_then : (v : Pen ℤ) (w : Pen ℕ) → RulesPut t u ss v w → RulesPut p q (s ∷ ss) v w
+    unfolding starts_in
+    rules_then v w h = record {
+      integers = part_then integers_in p s ss t v one.integers h.integers;
+      starts = pen_laws.both q u w (starts_from p.at (rules_in s)) (starts_in (p.at + length (integers_in s)) ss) one.starts (subst (λ n. filled u (starts_in n ss) w) next_start h.starts);
+    }

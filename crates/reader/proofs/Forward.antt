@@ -4,7 +4,7 @@ use Rattle.std.proofs.lemmas.Result.{IfOk-weaker}
 use Rattle.std.proofs.lemmas.Bool.{cond_both, cond-false, le-ltb}
 use Rattle.aspif.specs.declared.error.TextError.{TextError}
 use Rattle.aspif.specs.declared.error.TextError.TheVariants.{OverLimit, UnexpectedEnd}
-use Rattle.reader.specs.Fields.{and_then, minus_at, digits_from, digits_count, field_at}
+use Rattle.reader.specs.Fields.{and_then, minus_at, digits_from, digits_count, field_at, Field}
 use Rattle.reader.specs.Rows.{count_limit, count_fault, count_judged, after_count, count_at, allowed, after_item, item_at, Row, before, row_at}
 use Rattle.reader.specs.Statements.{Stmt}
 use Rattle.reader.specs.Read.{EveryTextHasItsVerdict}
@@ -15,7 +15,6 @@ use Rattle.reader.specs.declared.pieces.After.{After}
 use Rattle.reader.specs.declared.pieces.After.TheVariants.{Space, ByKind}
 use Rattle.reader.specs.declared.pieces.Count.{Count}
 use Rattle.reader.specs.declared.pieces.Count.TheVariants as count
-use Rattle.reader.specs.declared.pieces.Field.{Field}
 use Rattle.reader.specs.declared.pieces.Items.{Items}
 use Rattle.reader.specs.declared.pieces.Items.TheVariants as items
 use Rattle.reader.proofs.Moves.{start_after, field_moves}
@@ -79,7 +78,7 @@ body_after text at = then_made (AfterPlace at) (λ m. at ≤ m) (field_at Space 
 
 -- whole lines
 
-pub end_of : Line → ℕ
+unfoldable pub end_of : Line → ℕ
 end_of (ended end) = end
 end_of (said s end) = end
 

@@ -2,14 +2,13 @@
 use Rattle.std.proofs.Common.{◌≡◌, ℕ, zero, suc, ◌+◌, ◌-◌, ◌<◌, Bool, true, false, not, eqb, ltb, ◌≢◌, List, [], ◌∷◌, ◌++◌, map, length, get_or, take, drop, ℤ, pos, negsuc, nat_abs, IfOk, Ok, Err, decimal, sym, refl, ap, ◌∙◌, subst, one-add, arith, length-drop}
 use lib.ListN.{length-map}
 use Rattle.std.specs.Fmt.{signed_decimal}
-use Rattle.std.specs.List.{prefix_len, AllByRecursion as Each}
+use Rattle.std.specs.List.{prefix_len, AllByRecursion as Each, list_all}
 use Rattle.std.proofs.lemmas.Fmt.{decimal_digit}
 use Rattle.std.proofs.ByRecursion.{All-map}
 use Rattle.std.proofs.lemmas.List.{drop-drop, drop_more, take-append-drop, length-take-le}
 use Rattle.std.proofs.lemmas.List.Sums.{prefix_len-le-length}
 use Rattle.std.proofs.lemmas.Bool.{and_parts, cond-true, cond-false, cond_both, ltb-true, eqb-true, eqb-false}
 use Rattle.std.proofs.lemmas.Bool.Decides.{nat_tests}
-use Rattle.base.specs.Search.{every}
 use Rattle.base.proofs.Search.{every_all}
 use Rattle.book.specs.Rules.{Rule, Atom, Literal}
 use Rattle.book.specs.Encoding.{head_type}
@@ -18,14 +17,12 @@ use Rattle.numbers.specs.NumbersLawful.{within_atom, is_literal_lem}
 use Rattle.aspif.specs.Texts.{closing, spaced}
 use Rattle.aspif.specs.declared.error.TextError.TheVariants.{Malformed, Unsupported, UnexpectedEnd}
 use Rattle.reader.specs.Fields.{field_at}
-use Rattle.reader.specs.Rows.{Row, count_at}
+use Rattle.reader.specs.Rows.{Row, count_at, Counted}
 use Rattle.reader.specs.Statements.{Stmt, output, skipped}
-use Rattle.reader.specs.Lines.{counted_at, head_type_at, body_type_at, Line, ended, said, rule_of, rule_at, name_end_at, output_at, assumption_at, in_line, rest_of, skipped_at, passed_over, by_kind, line_at}
+use Rattle.reader.specs.Lines.{counted_at, head_type_at, body_type_at, Line, ended, said, rule_of, rule_at, name_end_at, output_at, assumption_at, in_line, rest_of, skipped_at, passed_over, by_kind, line_at, Headed}
 use Rattle.reader.specs.Program.{line_of, Passable, Fits, Placed}
 use Rattle.reader.specs.declared.pieces.After.TheVariants.{ByKind}
 use Rattle.reader.specs.declared.pieces.Count.TheVariants as count
-use Rattle.reader.specs.declared.pieces.Counted.{Counted}
-use Rattle.reader.specs.declared.pieces.Headed.{Headed}
 use Rattle.reader.specs.declared.pieces.Items.TheVariants as items
 use Rattle.reader.proofs.Forward.{then_made}
 use Rattle.reader.proofs.LineBytes.{counted_bytes, rule_bytes_lem, output_bytes_lem, assumption_bytes, skipped_bytes, rule_size, output_size, before_name_size, assumption_size, skipped_size}
@@ -44,7 +41,7 @@ abbrev pub LineSays : List ℕ → ℕ → Line → Type 0
 LineSays text at (ended end) = (drop at text ≡ closing ++ drop end text) × (end ≡ at + 2)
 LineSays text at (said s end) = Stands text at s end
 
-literals_fit : (zs : List ℤ) → every (is_literal 1024) zs ≡ true → Each (Literal 1024) zs
+literals_fit : (zs : List ℤ) → list_all (is_literal 1024) zs ≡ true → Each (Literal 1024) zs
 literals_fit zs h = every_all (is_literal 1024) (Literal 1024) (is_literal_lem 1024) zs h
 
 -- head atoms have no minus
@@ -52,9 +49,9 @@ positive_by : (z : ℤ) → within 1 1024 z ≡ true → pos (nat_abs z) ≡ z
 positive_by (pos n) h = refl
 positive_by (negsuc n) h = let no : ◌≡◌ {A = ℕ} 0 1 = cc in absurd (omega arith)
 
-positive : (zs : List ℤ) → every (within 1 1024) zs ≡ true → map pos (map nat_abs zs) ≡ zs
+positive : (zs : List ℤ) → list_all (within 1 1024) zs ≡ true → map pos (map nat_abs zs) ≡ zs
 positive [] h = refl
-positive (z ∷ zs) h = let p = and_parts (within 1 1024 z) (every (within 1 1024) zs) h in ap (◌∷ map pos (map nat_abs zs)) (positive_by z p.0) ∙ ap (z ∷◌) (positive zs p.1)
+positive (z ∷ zs) h = let p = and_parts (within 1 1024 z) (list_all (within 1 1024) zs) h in ap (◌∷ map pos (map nat_abs zs)) (positive_by z p.0) ∙ ap (z ∷◌) (positive zs p.1)
 
 module _ (text : List ℕ) (from at : ℕ) (two : at ≡ from + 2) where
   assumption_says : drop from text ≡ 54 ∷ (32 ∷ drop at text) → IfOk (assumption_at text at) (LineSays text from)

@@ -1,12 +1,11 @@
 -- Reading goes forward and stays inside the text.
 use Rattle.std.proofs.Common.{◌≡◌, ℕ, zero, suc, ◌+◌, ◌<◌, ◌≤◌, Bool, true, false, cond, ◌&&◌, ltb, List, length, get_or, take, drop, ℤ, is_ok, IfOk, Ok, Err, Result, refl, arith}
 use Rattle.std.proofs.lemmas.Bool.{and_from, cond_both, ltb-true}
-use Rattle.base.specs.Search.{every}
+use Rattle.std.specs.List.{list_all}
 use Rattle.aspif.specs.declared.error.TextError.{TextError}
-use Rattle.reader.specs.Fields.{and_then, formed, follows, minus_at, digits_from, digits_count, field_at}
+use Rattle.reader.specs.Fields.{and_then, formed, follows, minus_at, digits_from, digits_count, field_at, Field}
 use Rattle.reader.specs.Rows.{allowed, after_item, item_at, Row, before, row_at, row_values}
 use Rattle.reader.specs.declared.pieces.After.{After}
-use Rattle.reader.specs.declared.pieces.Field.{Field}
 use Rattle.reader.specs.declared.pieces.Items.{Items}
 
 -- a number ends after where it began, and before the end of the text
@@ -59,15 +58,15 @@ item_allowed : (items : Items) (more : ℕ) (text : List ℕ) (at : ℕ) → IfO
 unfolding item_at
 item_allowed items more text at = item_allowed_by (allowed items) _ (field_at (after_item items more) text at)
 
-before_allowed : (p : ℤ → Bool) (z : ℤ) (r : Result Row TextError) → p z ≡ true → every p (row_values r) ≡ true → every p (row_values (before z r)) ≡ true
-before_allowed p z (Ok r) h k = and_from (p z) (every p r.values) h k
+before_allowed : (p : ℤ → Bool) (z : ℤ) (r : Result Row TextError) → p z ≡ true → list_all p (row_values r) ≡ true → list_all p (row_values (before z r)) ≡ true
+before_allowed p z (Ok r) h k = and_from (p z) (list_all p r.values) h k
 before_allowed p z (Err e) h k = refl
 
-then_allowed : (p : ℤ → Bool) (s : Result Field TextError) (k : ℕ → Result Row TextError) → IfOk s (λ f. p f.value ≡ true) → ((b : ℕ) → every p (row_values (k b)) ≡ true) → every p (row_values (and_then s (λ f. before f.value (k f.next)))) ≡ true
+then_allowed : (p : ℤ → Bool) (s : Result Field TextError) (k : ℕ → Result Row TextError) → IfOk s (λ f. p f.value ≡ true) → ((b : ℕ) → list_all p (row_values (k b)) ≡ true) → list_all p (row_values (and_then s (λ f. before f.value (k f.next)))) ≡ true
 then_allowed p (Ok f) k h go = before_allowed p f.value (k f.next) h (go f.next)
 then_allowed p (Err e) k h go = refl
 
-pub row_allowed : (items : Items) (n : ℕ) (text : List ℕ) (at : ℕ) → every (allowed items) (row_values (row_at items n text at)) ≡ true
+pub row_allowed : (items : Items) (n : ℕ) (text : List ℕ) (at : ℕ) → list_all (allowed items) (row_values (row_at items n text at)) ≡ true
 unfolding row_at
 row_allowed items zero text at = refl
 row_allowed items (suc n) text at = then_allowed (allowed items) (item_at items n text at) (row_at items n text) (item_allowed items n text at) (row_allowed items n text)

@@ -23,6 +23,8 @@ ten_step v d i h k = rw (add-one, pow-suc) (omega arith)
 pub ten_room : (v i k : ℕ) → v < 10 ^ i → i ≤ k → v < 10 ^ k
 ten_room v i k h le = omega (arith, pow-le-pow_right {n = 10} (omega arith) le)
 
+pub ruleset digit_steps = (digit_now, ten_step, ten_room)
+
 front_by : (p : ℕ → Bool) (x : ℕ) (xs : List ℕ) (b : Bool) → p x ≡ b → prefix_len p (take (prefix_len p xs) xs) ≡ prefix_len p xs → prefix_len p (take (prefix_len p (x ∷ xs)) (x ∷ xs)) ≡ prefix_len p (x ∷ xs)
 front_by p x xs true y ih = simp (y, one-add, ih)
 front_by p x xs false n ih = simp n

@@ -1,15 +1,15 @@
 -- A text that the survey has counted: its statements are said, and the counts are the sizes of what they fill.
-use Rattle.std.proofs.Common.{◌≡◌, ℕ, ◌≤◌, Bool, true, false, cond, ltb, leb, List, length, Ok, Err, Result, sym, refl, subst, arith}
+use Rattle.std.proofs.Common.{◌≡◌, ℕ, ◌≤◌, Bool, true, false, cond, ltb, leb, List, length, ℤ, is_ok, Ok, Err, Result, sym, refl, subst, arith}
 use Rattle.std.proofs.lemmas.Bool.{and_parts, leb-true, ltb-false}
 use Rattle.aspif.specs.Texts.{heading}
 use Rattle.aspif.specs.declared.error.TextError.{TextError}
 use Rattle.aspif.specs.declared.error.TextError.TheVariants.{WrongHeading, OverLimit}
-use Rattle.reader.specs.Statements.{Stmt}
+use Rattle.reader.specs.Statements.{Stmt, assumed_in}
 use Rattle.reader.specs.Scan.{nothing, with_all, counts_of, statements_from}
 use Rattle.reader.specs.Read.{begins, has_room, statements_of}
-use Rattle.reader.specs.Fill.{said_from, listed, parts_in, starts_in}
+use Rattle.reader.specs.Held.{Held}
+use Rattle.reader.specs.Fill.{said_from, listed, integers_in, parts_in, starts_in}
 use Rattle.reader.specs.declared.pieces.Counts.{Counts}
-use Rattle.reader.specs.declared.pieces.Part.TheVariants.{Integers, Assumed}
 use Rattle.reader.proofs.Headings.{heading_long}
 use Rattle.reader.proofs.Wholes.{whole, never, integers_counted, assumed_counted, rules_counted}
 
@@ -18,10 +18,14 @@ pub record Surveyed (text : List ℕ) (C : Counts) (ss : List Stmt) : Type 0 whe
   pub short : length text ≤ 65536
   pub saying : said_from (length text) text 10 ≡ Ok ss
   pub atoms : C.atoms ≡ (with_all nothing ss).atoms
-  pub integers : C.integers ≡ length (parts_in Integers ss)
+  pub integers : C.integers ≡ length (parts_in integers_in ss)
   pub starts : C.rules ≡ length (starts_in 0 ss)
-  pub assumed : C.assumed ≡ length (parts_in Assumed ss)
+  pub assumed : C.assumed ≡ length (parts_in assumed_in ss)
   pub bounded : C.integers ≤ 16384
+
+ok_counted : (r : Result (List Stmt) TextError) → is_ok r ≡ true → (C : Counts) × (counts_of nothing r ≡ Ok C)
+ok_counted (Ok ss) h = (with_all nothing ss, refl)
+ok_counted (Err e) h = let z : ◌≡◌ {A = ℕ} 0 1 = cc in absurd (omega arith)
 
 module _ (text : List ℕ) where
   counted : (ss : List Stmt) → 10 ≤ length text → length text ≤ 65536 → statements_from (length text) nothing text 10 ≡ Ok ss → Surveyed text (with_all nothing ss) ss
@@ -53,6 +57,9 @@ module _ (text : List ℕ) where
   unfolding statements_of
   surveyed C h = by_tests C (ltb 65536 (length text)) (begins heading text) refl refl h
 
+  pub read_again : is_ok (statements_of text) ≡ true → (C : Counts) × Surveyed text C (listed (statements_of text))
+  read_again h = let c = ok_counted (statements_of text) h in (c.0, surveyed c.0 c.1)
+
 -- the lists are long enough
 pub record Roomy (C : Counts) (integers starts places lengths assumed : ℕ) : Type 0 where
   pub for_integers : C.integers ≤ integers
@@ -74,3 +81,6 @@ roomy C i s p l a h =
       for_lengths = leb-true C.atoms l four.0;
       for_assumed = leb-true C.assumed a four.1;
     }
+
+pub same_held : {i j a b : List ℤ} {s t p q l m : List ℕ} → i ≡ j → s ≡ t → p ≡ q → l ≡ m → a ≡ b → ◌≡◌ {A = Held} (record { integers = i; starts = s; places = p; lengths = l; assumed = a }) (record { integers = j; starts = t; places = q; lengths = m; assumed = b })
+same_held e f g h k = cc

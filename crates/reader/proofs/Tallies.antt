@@ -1,65 +1,30 @@
--- What one statement adds to what was read before.
-use Rattle.std.proofs.Common.{◌≡◌, ℕ, ◌+◌, ◌≤◌, max, [], ◌∷◌, ◌++◌, map, length, pos, nat_abs, Ok, Result, sym, refl, ap, ◌∙◌, arith, length-append}
+-- How many numbers the parts of a statement have.
+use Rattle.std.proofs.Common.{◌≡◌, ◌≤◌, true, [], ◌∷◌, ◌++◌, map, length, ℤ, pos, nat_abs, sym, ap, ◌∙◌, subst, arith}
 use lib.ListN.{length-map}
-use Rattle.book.specs.Rules.{Rule}
-use Rattle.book.specs.Encoding.{head_type, encode_rule, encode}
-use Rattle.book.specs.declared.kind.Kind.{Kind}
-use Rattle.aspif.specs.declared.error.TextError.{TextError}
-use Rattle.reader.specs.Statements.{rule, assumption, greatest}
-use Rattle.reader.specs.Scan.{with_one}
-use Rattle.reader.specs.Seen.{numbers_in, rule_meant, Readable}
-use Rattle.reader.specs.declared.pieces.Counts.{Counts}
-use Rattle.reader.specs.declared.pieces.Items.{Items}
-use Rattle.reader.specs.declared.pieces.Items.TheVariants.{Heads, Literals}
-use Rattle.reader.specs.declared.statement.Numbers.{Numbers}
+use Rattle.std.specs.List.{list_all}
+use Rattle.book.specs.Encoding.{head_type, encode_rule}
 use Rattle.numbers.proofs.Spelled.{heads_back}
-use Rattle.reader.proofs.Steps.{row_length}
+use Rattle.reader.specs.Rows.{allowed}
+use Rattle.reader.specs.Seen.{numbers_in, rule_meant}
+use Rattle.reader.specs.declared.statement.Numbers.{Numbers}
+use Rattle.reader.specs.declared.statement.Rule.{Rule}
 use Rattle.reader.proofs.Moves.{row_few, row_allowed}
+use Rattle.reader.proofs.Steps.{row_length}
 
-abbrev counts : ℕ → ℕ → ℕ → ℕ → Counts
-counts a r i z = record { atoms = a; rules = r; integers = i; assumed = z }
+pub numbers_count : (ns : Numbers) → length (numbers_in ns) ≡ ns.count
+numbers_count ns = row_length ns.items ns.count ns.start.text.now ns.start.at ns.reads
 
-pub numbers_count : (i : Items) (ns : Numbers) → Readable i ns → length (numbers_in i ns) ≡ ns.count
-numbers_count i ns h = row_length i ns.count ns.bytes.now 0 h.reads
-
-pub from_ok : {X : Type 0} (x y : X) → ◌≡◌ {A = Result X TextError} (Ok x) (Ok y) → x ≡ y
-from_ok x y e = cc
-
-same_counts : (a b r s i j y z : ℕ) → a ≡ b → r ≡ s → i ≡ j → y ≡ z → counts a r i y ≡ counts b s j z
-same_counts a b r s i j y z e f g h = ap (λ k. counts k r i y) e ∙ ap (λ k. counts b k i y) f ∙ ap (λ k. counts b s k y) g ∙ ap (counts b s j) h
-
-rule_length : (ρ : Rule) (h b : ℕ) → length ρ.head ≡ h → length ρ.body ≡ b → 4 + h + b ≡ length (encode (ρ ∷ []))
-rule_length ρ h b e f = simp (length-append, length-map) (omega arith)
-
-abbrev IsTop : Items → Numbers → ℕ → Type 0
-IsTop i ns top = ◌≡◌ {A = Result ℕ TextError} (Ok top) (Ok (greatest (map nat_abs (numbers_in i ns))))
-
-module _ (C : Counts) where
-  pub assumption_adds : (ns : Numbers) (top m : ℕ) → Readable Literals ns → IsTop Literals ns top → m ≡ max C.atoms top → counts m C.rules C.integers (C.assumed + ns.count) ≡ with_one C (assumption (numbers_in Literals ns))
-  assumption_adds ns top m h t e =
-      same_counts _ _ _ _ _ _ _ _
-      (e ∙ ap (max C.atoms) (from_ok _ _ t)) (omega arith) (omega arith) (ap (λ k. C.assumed + k) (sym (numbers_count Literals ns h)))
-
-  pub rule_adds : (k : Kind) (hs ls : Numbers) (top bottom m n : ℕ) → Readable Heads hs → Readable Literals ls → IsTop Heads hs top → IsTop Literals ls bottom → n ≡ max top bottom → m ≡ max C.atoms n → counts m (C.rules + 1) (C.integers + (4 + hs.count + ls.count)) C.assumed ≡ with_one C (rule (rule_meant k hs ls))
-  rule_adds k hs ls top bottom m n h l t b e f =
-      let heads = length-map (numbers_in Heads hs) nat_abs ∙ numbers_count Heads hs h in
-      same_counts _ _ _ _ _ _ _ _
-      (f ∙ ap (max C.atoms) (e ∙ ap (λ x. max x bottom) (from_ok _ _ t) ∙ ap (max (greatest (map nat_abs (numbers_in Heads hs)))) (from_ok _ _ b)))
-      refl
-      (ap (λ x. C.integers + x) (rule_length (rule_meant k hs ls) hs.count ls.count heads (numbers_count Literals ls l)))
-      (omega arith)
-
-pub count_short : (i : Items) (ns : Numbers) → Readable i ns → ns.count ≤ 65536
-count_short i ns h = omega (arith, row_few i ns.count ns.bytes.now 0 (omega arith) h.reads, h.short)
+pub count_short : (ns : Numbers) → ns.count ≤ 65536
+count_short ns = omega (arith, row_few ns.items ns.count ns.start.text.now ns.start.at ns.start.inside ns.reads, ns.start.short)
 
 -- the integers of a rule, piece by piece
-pub rule_pieces : (k : Kind) (hs ls : Numbers) → Readable Heads hs → Readable Literals ls → encode_rule (rule_meant k hs ls) ≡ (head_type k ∷ pos hs.count ∷ []) ++ (numbers_in Heads hs ++ ((pos 0 ∷ pos ls.count ∷ []) ++ numbers_in Literals ls))
-rule_pieces k hs ls h l =
-    let vs = numbers_in Heads hs in
-    let ws = numbers_in Literals ls in
-    ap (λ n. head_type k ∷ pos n ∷ (map pos (map nat_abs vs) ++ (pos 0 ∷ pos (length ws) ∷ ws))) (length-map vs nat_abs ∙ numbers_count Heads hs h)
-    ∙ ap (λ t. head_type k ∷ pos hs.count ∷ (t ++ (pos 0 ∷ pos (length ws) ∷ ws))) (heads_back 1024 vs (row_allowed Heads hs.count hs.bytes.now 0))
-    ∙ ap (λ n. head_type k ∷ pos hs.count ∷ (vs ++ (pos 0 ∷ pos n ∷ ws))) (numbers_count Literals ls l)
-
-pub rule_part_length : (k : Kind) (hs ls : Numbers) → Readable Heads hs → Readable Literals ls → length (encode (rule_meant k hs ls ∷ [])) ≡ 4 + hs.count + ls.count
-rule_part_length k hs ls h l = sym (rule_length (rule_meant k hs ls) hs.count ls.count (length-map (numbers_in Heads hs) nat_abs ∙ numbers_count Heads hs h) (numbers_count Literals ls l))
+pub rule_pieces : (r : Rule) (t : ℤ) → t ≡ head_type r.kind → encode_rule (rule_meant r) ≡ (t ∷ pos r.heads.count ∷ []) ++ (numbers_in r.heads ++ ((pos 0 ∷ pos r.body.count ∷ []) ++ numbers_in r.body))
+rule_pieces r t e =
+    let vs = numbers_in r.heads in
+    let ws = numbers_in r.body in
+    let hs = r.heads in
+    let atoms = subst (λ i. list_all (allowed i) vs ≡ true) r.atoms (row_allowed hs.items hs.count hs.start.text.now hs.start.at) in
+    ap (λ n. head_type r.kind ∷ pos n ∷ (map pos (map nat_abs vs) ++ (pos 0 ∷ pos (length ws) ∷ ws))) (length-map vs nat_abs ∙ numbers_count hs)
+    ∙ ap (λ zs. head_type r.kind ∷ pos hs.count ∷ (zs ++ (pos 0 ∷ pos (length ws) ∷ ws))) (heads_back 1024 vs atoms)
+    ∙ ap (λ n. head_type r.kind ∷ pos hs.count ∷ (vs ++ (pos 0 ∷ pos n ∷ ws))) (numbers_count r.body)
+    ∙ ap (λ z. z ∷ pos hs.count ∷ (vs ++ (pos 0 ∷ pos r.body.count ∷ ws))) (sym e)

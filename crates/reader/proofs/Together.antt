@@ -9,13 +9,12 @@ use Rattle.aspif.specs.declared.error.TextError.{TextError}
 use Rattle.reader.specs.Fields.{and_then}
 use Rattle.reader.specs.Statements.{Stmt, rules_in, assumed_in}
 use Rattle.reader.specs.Scan.{nothing, with_one, with_all, keeps, counts_of}
-use Rattle.reader.specs.Fill.{both, with_names, parts_in, starts_in}
+use Rattle.reader.specs.Fill.{both, with_names, integers_in, parts_in, starts_in}
 use Rattle.reader.specs.Program.{rules_of, assumed_of, atoms_of, sizes_of}
 use Rattle.reader.specs.Read.{statements_of, room_tested, read_answer, unnamed, integers_after, starts_after, assumed_after, names_after}
 use Rattle.reader.specs.ReadLaw.{SaidTogether}
 use Rattle.reader.specs.declared.pieces.Counts.{Counts}
-use Rattle.reader.specs.declared.pieces.Part.TheVariants.{Integers, Assumed}
-use Rattle.reader.proofs.Starting.{starts_length}
+use Rattle.reader.proofs.Wholes.{starts_length}
 use Rattle.reader.proofs.Wholes.{rules_counted, integers_counted, assumed_counted}
 
 encode_append : (xs ys : List Rule) → encode (xs ++ ys) ≡ encode xs ++ encode ys
@@ -29,7 +28,7 @@ starts_append at (x ∷ xs) ys =
     let end : n + length (encode xs) ≡ at + length (encode_rule x ++ encode xs) = omega (arith, length-append (encode_rule x) (encode xs)) in
     ap (at ∷◌) (starts_append n xs ys ∙ ap (λ k. starts_from n xs ++ starts_from k ys) end)
 
-pub integers_are : (ss : List Stmt) → parts_in Integers ss ≡ encode (rules_of ss)
+pub integers_are : (ss : List Stmt) → parts_in integers_in ss ≡ encode (rules_of ss)
 unfolding parts_in rules_of
 integers_are [] = refl
 integers_are (s ∷ ss) = ap (encode (rules_in s) ++◌) (integers_are ss) ∙ sym (encode_append (rules_in s) (rules_of ss))
@@ -39,7 +38,7 @@ unfolding starts_in rules_of
 starts_are start [] = refl
 starts_are start (s ∷ ss) = ap (starts_from start (rules_in s) ++◌) (starts_are (start + length (encode (rules_in s))) ss) ∙ sym (starts_append start (rules_in s) (rules_of ss))
 
-pub assumed_are : (ss : List Stmt) → parts_in Assumed ss ≡ assumed_of ss
+pub assumed_are : (ss : List Stmt) → parts_in assumed_in ss ≡ assumed_of ss
 unfolding parts_in assumed_of
 assumed_are [] = refl
 assumed_are (s ∷ ss) = ap (assumed_in s ++◌) (assumed_are ss)

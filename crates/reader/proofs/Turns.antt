@@ -1,42 +1,58 @@
 -- The statements of a text, line by line.
-use Rattle.std.proofs.Common.{◌≡◌, ℕ, suc, ◌+◌, ◌-◌, ◌<◌, ◌≤◌, Bool, true, false, cond, eqb, List, [], length, Ok, Err, Result, refl, ap, ◌∙◌, arith}
+use Rattle.std.proofs.Common.{◌≡◌, ℕ, suc, ◌+◌, ◌<◌, ◌≤◌, true, false, List, length, Ok, Err, Result, sym, refl, ap, ◌∙◌, ◌≢◌, arith}
+use Rattle.std.proofs.lemmas.Result.{IfOk-at_ok}
+use Rattle.std.proofs.lemmas.Bool.Decides.{nat_tests}
 use Rattle.aspif.specs.declared.error.TextError.{TextError}
-use Rattle.aspif.specs.declared.error.TextError.TheVariants.{Malformed, OverLimit, UnexpectedEnd}
+use Rattle.aspif.specs.declared.error.TextError.TheVariants.{Malformed, OverLimit}
 use Rattle.reader.specs.Fields.{and_then}
 use Rattle.reader.specs.Statements.{Stmt}
 use Rattle.reader.specs.Lines.{Line, ended, said, line_at}
-use Rattle.reader.specs.Scan.{with_one, keeps, step_by, step_at, before, list_by, statements_from, counts_of}
+use Rattle.reader.specs.Scan.{with_one, keeps, before, list_by, statements_from, counts_of}
 use Rattle.reader.specs.declared.pieces.Counts.{Counts}
-use Rattle.reader.specs.declared.pieces.Step.{Step}
+use Rattle.reader.proofs.Forward.{end_of, enough, line_after}
 
 counts_of_before : (C : Counts) (s : Stmt) (r : Result (List Stmt) TextError) → counts_of C (before s r) ≡ counts_of (with_one C s) r
 counts_of_before C s (Ok ss) = refl
 counts_of_before C s (Err e) = refl
 
-module _ (next : Counts → ℕ → Result (List Stmt) TextError) (C : Counts) (text : List ℕ) (at : ℕ) where
-  -- what follows a line
-  abbrev after : Step → Result Counts TextError
-  after s = cond s.ended (Ok s.counts) (counts_of s.counts (next s.counts s.at))
+module _ (C : Counts) (text : List ℕ) (at : ℕ) where
+  -- what the statements from a place on come to
+  abbrev pub left : Result Counts TextError
+  left = counts_of C (statements_from (length text) C text at)
 
-  end_turn : (b : Bool) (e : ℕ) → counts_of C (cond b (Ok []) (Err (Malformed e))) ≡ and_then (cond b (Ok (record { counts = C; at = e; ended = true })) (Err (Malformed e))) after
-  end_turn true e = refl
-  end_turn false e = refl
+  by_line : Line → Result (List Stmt) TextError
+  by_line = list_by (λ D b. statements_from (length text) D text b) C text at
 
-  said_turn : (b : Bool) (s : Stmt) (e : ℕ) → counts_of C (cond b (before s (next (with_one C s) e)) (Err (OverLimit at))) ≡ and_then (cond b (Ok (record { counts = with_one C s; at = e; ended = false })) (Err (OverLimit at))) after
-  said_turn true s e = counts_of_before C s (next (with_one C s) e)
-  said_turn false s e = refl
+  turn : left ≡ counts_of C (and_then (line_at text at) by_line)
+  unfolding statements_from by_line
+  turn = ap (counts_of C) (sym (enough (length text) (suc (length text)) C text at (omega arith) (omega arith)))
 
-  line_turn : (l : Result Line TextError) → counts_of C (and_then l (list_by next C text at)) ≡ and_then (and_then l (step_by C text at)) after
-  line_turn (Ok (ended e)) = end_turn (eqb e (length text)) e
-  line_turn (Ok (said s e)) = said_turn (keeps (with_one C s)) s e
-  line_turn (Err x) = refl
+  here : (l : Result Line TextError) → l ≡ line_at text at → left ≡ counts_of C (and_then l by_line)
+  here l e = turn ∙ ap (λ r. counts_of C (and_then r by_line)) (sym e)
 
-pub turn : (n i : ℕ) (C : Counts) (text : List ℕ) (at : ℕ) → i < n → counts_of C (statements_from (n - i) C text at) ≡ and_then (step_at C text at) (λ s. cond s.ended (Ok s.counts) (counts_of s.counts (statements_from (n - (i + 1)) s.counts text s.at)))
-unfolding statements_from step_at
-turn n i C text at h =
-    let e : n - i ≡ suc (n - (i + 1)) = omega arith in
-    ap (λ k. counts_of C (statements_from k C text at)) e ∙ line_turn (λ D p. statements_from (n - (i + 1)) D text p) C text at (line_at text at)
+  pub no_line : (x : TextError) → Err x ≡ line_at text at → left ≡ Err x
+  no_line x e = here (Err x) e
 
-pub no_turn : (n i : ℕ) (C : Counts) (text : List ℕ) (at : ℕ) → n ≤ i → counts_of C (statements_from (n - i) C text at) ≡ Err (UnexpectedEnd (length text))
-unfolding statements_from
-no_turn n i C text at h = let e : n - i ≡ 0 = omega arith in ap (λ k. counts_of C (statements_from k C text at)) e
+  module _ (s : Stmt) (next : ℕ) (e : Ok (said s next) ≡ line_at text at) where
+    pub one_more : keeps (with_one C s) ≡ true → left ≡ counts_of (with_one C s) (statements_from (length text) (with_one C s) text next)
+    unfolding by_line
+    one_more k = here (Ok (said s next)) e ∙ simp k (counts_of_before C s (statements_from (length text) (with_one C s) text next))
+
+    pub too_many : keeps (with_one C s) ≡ false → left ≡ Err (OverLimit at)
+    unfolding by_line
+    too_many k = here (Ok (said s next)) e ∙ simp k refl
+
+    pub further : at < next
+    unfolding end_of
+    further = let h = IfOk-at_ok (λ l. at + 1 ≤ end_of l) (sym e) (line_after text at) in omega arith
+
+  module _ (next : ℕ) (e : Ok (ended next) ≡ line_at text at) where
+    pub no_more : next ≡ length text → left ≡ Ok C
+    unfolding by_line
+    no_more h = here (Ok (ended next)) e ∙ grind (arith, nat_tests)
+
+    pub not_the_end : next ≢ length text → left ≡ Err (Malformed next)
+    unfolding by_line
+    not_the_end h = here (Ok (ended next)) e ∙ grind (arith, nat_tests)
+
+pub ruleset line_steps = (no_line, one_more, further, no_more, not_the_end)

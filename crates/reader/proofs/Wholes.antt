@@ -2,15 +2,18 @@
 use Rattle.std.proofs.Common.{◌≡◌, ℕ, zero, suc, ◌+◌, Bool, true, false, cond, eqb, List, [], ◌∷◌, length, Ok, Err, Result, sym, refl, ap, ◌∙◌, add-zero, arith, length-append}
 use Rattle.aspif.specs.declared.error.TextError.{TextError}
 use Rattle.aspif.specs.declared.error.TextError.TheVariants.{Malformed, OverLimit}
-use Rattle.book.specs.Encoding.{encode, starts_from}
+use Rattle.book.specs.Rules.{Rule}
+use Rattle.book.specs.Encoding.{encode_rule, encode, starts_from}
 use Rattle.reader.specs.Fields.{and_then}
 use Rattle.reader.specs.Statements.{Stmt, rules_in, assumed_in}
 use Rattle.reader.specs.Lines.{Line, ended, said, line_at}
 use Rattle.reader.specs.Scan.{with_one, with_all, keeps, before, list_by, statements_from}
-use Rattle.reader.specs.Fill.{said_by, said_from, parts_in, starts_in}
+use Rattle.reader.specs.Fill.{said_by, said_from, integers_in, parts_in, starts_in}
 use Rattle.reader.specs.declared.pieces.Counts.{Counts}
-use Rattle.reader.specs.declared.pieces.Part.TheVariants.{Integers, Assumed}
-use Rattle.reader.proofs.Starting.{starts_length}
+
+pub starts_length : (start : ℕ) (ρs : List Rule) → length (starts_from start ρs) ≡ length ρs
+starts_length start [] = refl
+starts_length start (ρ ∷ ρs) = ap suc (starts_length (start + length (encode_rule ρ)) ρs)
 
 -- the statements are all said, and come to no more than the limits
 pub record Whole (C : Counts) (ss : List Stmt) (plain : Result (List Stmt) TextError) : Type 0 where
@@ -49,15 +52,15 @@ whole (suc n) C text at ss k h =
 
 -- the counts are the sizes of what the lists are filled with
 
-pub integers_counted : (C : Counts) (ss : List Stmt) → (with_all C ss).integers ≡ C.integers + length (parts_in Integers ss)
+pub integers_counted : (C : Counts) (ss : List Stmt) → (with_all C ss).integers ≡ C.integers + length (parts_in integers_in ss)
 unfolding parts_in
 integers_counted C [] = sym (add-zero C.integers)
-integers_counted C (s ∷ ss) = integers_counted (with_one C s) ss ∙ omega (arith, length-append (encode (rules_in s)) (parts_in Integers ss))
+integers_counted C (s ∷ ss) = integers_counted (with_one C s) ss ∙ omega (arith, length-append (encode (rules_in s)) (parts_in integers_in ss))
 
-pub assumed_counted : (C : Counts) (ss : List Stmt) → (with_all C ss).assumed ≡ C.assumed + length (parts_in Assumed ss)
+pub assumed_counted : (C : Counts) (ss : List Stmt) → (with_all C ss).assumed ≡ C.assumed + length (parts_in assumed_in ss)
 unfolding parts_in
 assumed_counted C [] = sym (add-zero C.assumed)
-assumed_counted C (s ∷ ss) = assumed_counted (with_one C s) ss ∙ omega (arith, length-append (assumed_in s) (parts_in Assumed ss))
+assumed_counted C (s ∷ ss) = assumed_counted (with_one C s) ss ∙ omega (arith, length-append (assumed_in s) (parts_in assumed_in ss))
 
 pub rules_counted : (C : Counts) (start : ℕ) (ss : List Stmt) → (with_all C ss).rules ≡ C.rules + length (starts_in start ss)
 unfolding starts_in

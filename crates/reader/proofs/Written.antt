@@ -11,10 +11,9 @@ use Rattle.std.proofs.lemmas.Bool.Decides.{nat_tests}
 use Rattle.std.proofs.lemmas.Str.Parse.{IsNumeralModel, numerals_by_fold, tells_all_ascii_digits, digits_value_short}
 use Rattle.std.proofs.lemmas.Fmt.{digits_decimal, digits_value-decimal, length-decimal-le, decimal_nonempty, first_decimal, decimal_digit, decimal-digits_value}
 use Rattle.aspif.specs.declared.error.TextError.{TextError}
-use Rattle.reader.specs.Fields.{read_on, signed_by, formed, follows, minus_at, digits_from, digits_count, field_by, field_at}
+use Rattle.reader.specs.Fields.{read_on, signed_by, formed, follows, minus_at, digits_from, digits_count, field_by, field_at, Field}
 use Rattle.reader.specs.declared.pieces.After.{After}
 use Rattle.reader.specs.declared.pieces.After.TheVariants.{Space, Newline, ByCount, ByKind}
-use Rattle.reader.specs.declared.pieces.Field.{Field}
 
 own : IsNumeralModel (λ ds. all_ascii_digits ds ≡ true) (read_on 0)
 own = numerals_by_fold _ tells_all_ascii_digits read_on (search rules)

@@ -4,20 +4,18 @@ use Rattle.std.specs.Fmt.{signed_decimal}
 use Rattle.std.proofs.lemmas.Bool.{cond-false, cond_both, le-ltb, ltb-false, eqb-true}
 use Rattle.std.proofs.lemmas.Result.{IfOk-weaker}
 use Rattle.std.proofs.lemmas.Bool.Decides.{nat_tests}
-use Rattle.base.specs.Search.{every}
+use Rattle.std.specs.List.{list_all}
 use Rattle.book.specs.Encoding.{head_type}
 use Rattle.book.specs.declared.kind.Kind.{Kind}
 use Rattle.book.specs.declared.kind.Kind.TheVariants.{Plain, Choice}
 use Rattle.aspif.specs.Texts.{spaced}
 use Rattle.aspif.specs.declared.error.TextError.TheVariants.{Malformed, Unsupported}
 use Rattle.reader.specs.Fields.{and_then, follows, field_at}
-use Rattle.reader.specs.Rows.{after_count, count_limit, count_fault, count_judged, count_at, allowed, Row, row_at}
-use Rattle.reader.specs.Lines.{counted_at, head_judged, head_type_at, body_judged, body_type_at}
+use Rattle.reader.specs.Rows.{after_count, count_limit, count_fault, count_judged, count_at, allowed, Row, row_at, Counted}
+use Rattle.reader.specs.Lines.{counted_at, head_judged, head_type_at, body_judged, body_type_at, Headed}
 use Rattle.reader.specs.declared.pieces.After.TheVariants.{Space, ByCount}
 use Rattle.reader.specs.declared.pieces.Count.{Count}
 use Rattle.reader.specs.declared.pieces.Count.TheVariants as count
-use Rattle.reader.specs.declared.pieces.Counted.{Counted}
-use Rattle.reader.specs.declared.pieces.Headed.{Headed}
 use Rattle.reader.specs.declared.pieces.Items.{Items}
 use Rattle.reader.specs.declared.pieces.Items.TheVariants as items
 use Rattle.reader.proofs.Forward.{then_made}
@@ -70,7 +68,7 @@ pub record CountedTaken (c : Count) (zs : List ℤ) (text : List ℕ) (at : ℕ)
   pub row : counted_at c (items_of c) text at ≡ Ok (record { values = zs; next = at + length (decimal (length zs)) + 1 + length (spaced zs) })
   pub left : drop (at + length (decimal (length zs)) + 1 + length (spaced zs)) text ≡ rest
 
-pub counted_read : (c : Count) (zs : List ℤ) (text : List ℕ) (at : ℕ) (rest : List ℕ) → drop at text ≡ decimal (length zs) ++ (spaced zs ++ (lead (items_of c) 0 ∷ rest)) → length zs ≤ count_limit c → every (allowed (items_of c)) zs ≡ true → CountedTaken c zs text at rest
+pub counted_read : (c : Count) (zs : List ℤ) (text : List ℕ) (at : ℕ) (rest : List ℕ) → drop at text ≡ decimal (length zs) ++ (spaced zs ++ (lead (items_of c) 0 ∷ rest)) → length zs ≤ count_limit c → list_all (allowed (items_of c)) zs ≡ true → CountedTaken c zs text at rest
 unfolding counted_at
 counted_read c zs text at rest e l a =
     let i = items_of c in
@@ -118,7 +116,7 @@ pub record CountedSays (c : Count) (text : List ℕ) (at : ℕ) (r : Row) : Type
   pub bytes : drop at text ≡ decimal (length r.values) ++ (spaced r.values ++ (lead (items_of c) 0 ∷ drop r.next text))
   pub next : r.next ≡ at + length (decimal (length r.values)) + 1 + length (spaced r.values)
   pub few : length r.values ≤ count_limit c
-  pub fits : every (allowed (items_of c)) r.values ≡ true
+  pub fits : list_all (allowed (items_of c)) r.values ≡ true
 
 row_counted : (c : Count) (text : List ℕ) (at : ℕ) (m : Counted) → CountSays c text at m → (r : Row) → RowSays (items_of c) m.count text m.next r → CountedSays c text at r
 row_counted c text at m s r h =

@@ -3,13 +3,12 @@ use Rattle.std.proofs.Common.{◌≡◌, ℕ, zero, suc, ◌+◌, ◌^◌, ◌<�
 use Rattle.std.specs.Fmt.{signed_decimal}
 use Rattle.std.proofs.lemmas.Bool.{and_parts, and_from, cond-true, cond_both}
 use Rattle.std.proofs.lemmas.Bool.Decides.{nat_tests}
-use Rattle.base.specs.Search.{every}
+use Rattle.std.specs.List.{list_all}
 use Rattle.aspif.specs.Texts.{spaced}
 use Rattle.aspif.specs.declared.error.TextError.{TextError}
 use Rattle.aspif.specs.declared.error.TextError.TheVariants.{UnknownAtom}
-use Rattle.reader.specs.Fields.{and_then, follows, field_at}
+use Rattle.reader.specs.Fields.{and_then, follows, field_at, Field}
 use Rattle.reader.specs.Rows.{allowed, after_item, item_at, Row, before, row_at}
-use Rattle.reader.specs.declared.pieces.Field.{Field}
 use Rattle.reader.specs.declared.pieces.Items.{Items}
 use Rattle.reader.specs.declared.pieces.Items.TheVariants as items
 use Rattle.reader.proofs.Forward.{then_made}
@@ -65,12 +64,12 @@ item_read : (i : Items) (more : ℕ) (text : List ℕ) (at : ℕ) (f : Field) �
 unfolding item_at
 item_read i more text at f e a = ap (λ r. and_then r (λ g. cond (allowed i g.value) (Ok g) (Err (UnknownAtom at)))) e ∙ cond-true (allowed i f.value) (Ok f) _ a
 
-pub row_read : (i : Items) (zs : List ℤ) (text : List ℕ) (at : ℕ) (rest : List ℕ) → lead i (length zs) ∷ drop at text ≡ spaced zs ++ (lead i 0 ∷ rest) → every (allowed i) zs ≡ true → Taken i zs text at rest
+pub row_read : (i : Items) (zs : List ℤ) (text : List ℕ) (at : ℕ) (rest : List ℕ) → lead i (length zs) ∷ drop at text ≡ spaced zs ++ (lead i 0 ∷ rest) → list_all (allowed i) zs ≡ true → Taken i zs text at rest
 unfolding row_at spaced
 row_read i [] text at rest e a = record { row = ap (λ n. Ok (record { values = []; next = n })) (sym (add-zero at)); left = ap (λ n. drop n text) (add-zero at) ∙ ap (drop 1) e }
 row_read i (z ∷ zs) text at rest e a =
     let n = length zs in
-    let p = and_parts (allowed i z) (every (allowed i) zs) a in
+    let p = and_parts (allowed i z) (list_all (allowed i) zs) a in
     let tail = drop 1 (spaced zs ++ (lead i 0 ∷ rest)) in
     let here : drop at text ≡ signed_decimal z ++ (lead i n ∷ tail) = ap (drop 1) (e ∙ spaced_more z zs (lead i 0 ∷ rest)) ∙ ap (signed_decimal z ++◌) (opens i zs rest) in
     let next = at + length (signed_decimal z) + 1 in
@@ -88,7 +87,7 @@ pub record RowSays (i : Items) (n : ℕ) (text : List ℕ) (at : ℕ) (r : Row) 
   pub bytes : lead i n ∷ drop at text ≡ spaced r.values ++ (lead i 0 ∷ drop r.next text)
   pub next : r.next ≡ at + length (spaced r.values)
   pub count : length r.values ≡ n
-  pub fits : every (allowed i) r.values ≡ true
+  pub fits : list_all (allowed i) r.values ≡ true
 
 record ItemSays (i : Items) (more : ℕ) (text : List ℕ) (at : ℕ) (f : Field) : Type 0 where
   says : Says (after_item i more) text at f
@@ -109,7 +108,7 @@ before_says i n text at f (Ok r) s h =
       bytes = ap (λ b. b ∷ drop at text) (lead_some i n) ∙ ap (32 ∷◌) (s.says.bytes ∙ ap (λ b. signed_decimal z ++ (b ∷ drop f.next text)) ending ∙ ap (signed_decimal z ++◌) h.bytes) ∙ sym (spaced_more z zs (lead i 0 ∷ drop r.next text));
       next = omega (arith, h.next, s.says.next, spaced_size z zs);
       count = ap suc h.count;
-      fits = and_from (allowed i z) (every (allowed i) zs) s.fits h.fits;
+      fits = and_from (allowed i z) (list_all (allowed i) zs) s.fits h.fits;
     }
 before_says i n text at f (Err e) s h = tt
 

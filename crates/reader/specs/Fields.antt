@@ -1,17 +1,31 @@
 -- One number of a text, and the byte that ends it.
-use Rattle.std.specs.Prelude.{ℕ, ◌+◌, ◌-◌, ◌*◌, Bool, false, cond, not, ◌&&◌, ◌||◌, List, [], ◌∷◌, length, take, drop, ℤ, pos, negsuc, neg_ℤ, Ok, Err, Result, ◌==◌, nat_lt, slice_index}
+use Rattle.std.specs.Prelude.{ℕ, ◌+◌, ◌-◌, ◌*◌, Bool, false, cond, not, ◌&&◌, ◌||◌, List, [], ◌∷◌, length, take, drop, ℤ, pos, negsuc, neg_ℤ, Some, None, Option, Ok, Err, Result, ◌==◌, nat_lt, slice_index}
 use Rattle.std.specs.Char.{is_ascii_digit}
 use Rattle.std.specs.List.{prefix_len}
 use Rattle.aspif.specs.declared.error.TextError.{TextError}
 use Rattle.aspif.specs.declared.error.TextError.TheVariants.{Malformed, UnexpectedEnd}
 use Rattle.reader.specs.declared.pieces.After.{After}
 use Rattle.reader.specs.declared.pieces.After.TheVariants.{Space, Newline, ByCount, ByKind}
-use Rattle.reader.specs.declared.pieces.Field.{Field}
+
+-- a number of the text, the byte after it, and where the text goes on after that
+pub record Field : Type 0 where
+  pub value : ℤ
+  pub ending : ℕ
+  pub next : ℕ
 
 -- goes on where there is a value, and else hands the refusal on
 abbrev pub and_then : {X Y : Type 0} → Result X TextError → (X → Result Y TextError) → Result Y TextError
 and_then (Ok x) next = next x
 and_then (Err e) next = Err e
+
+-- what a step gave and the place that it ended at, together as f tells them; a refusal as it is
+abbrev pub stepped : {V X : Type 0} → (V → ℕ → X) → Result V TextError → ℕ → Result X TextError
+stepped f (Ok v) next = Ok (f v next)
+stepped f (Err e) next = Err e
+
+-- the byte at a place of the text
+abbrev pub byte_at : List ℕ → ℕ → Result ℕ TextError
+byte_at text at = cond (nat_lt at (length text)) (Ok (slice_index text at)) (Err (UnexpectedEnd (length text)))
 
 -- the number that digits write, after n
 abbrev pub read_on : ℕ → List ℕ → ℕ
@@ -24,6 +38,10 @@ signed_by minus n = cond minus (neg_ℤ (pos n)) (pos n)
 -- one to nine digits, no leading zero, and no zero after a minus
 abbrev pub formed : Bool → List ℕ → Bool
 formed minus ds = not (length ds == 0 || (nat_lt 9 (length ds) || (slice_index ds 0 == 48 && (minus || nat_lt 1 (length ds)))))
+
+-- the number, where it is written so
+abbrev pub number_of : Bool → List ℕ → Option ℤ
+number_of minus ds = cond (formed minus ds) (Some (signed_by minus (read_on 0 ds))) None
 
 abbrev pub is_zero : ℤ → Bool
 is_zero (pos n) = n == 0
@@ -66,3 +84,7 @@ field_by after text at from n =
 -- the number at a place of the text
 unfoldable pub field_at : After → List ℕ → ℕ → Result Field TextError
 field_at after text at = field_by after text at (digits_from text at) (digits_count text (digits_from text at))
+
+-- a number that was read up to a place, with the byte before that place
+abbrev pub field_to : List ℕ → ℤ → ℕ → Field
+field_to text z next = record { value = z; ending = slice_index text (next - 1); next = next }

@@ -3,8 +3,9 @@ pub mod Rows
 pub mod Statements
 pub mod Lines
 pub mod Program
-pub mod Seen
 pub mod Scan
 pub mod Fill
+pub mod Seen
 pub mod Read
+pub mod Held
 pub mod ReadLaw

@@ -5,12 +5,10 @@ use Rattle.book.specs.declared.kind.Kind.{Kind}
 use Rattle.book.specs.declared.kind.Kind.TheVariants.{Plain, Choice}
 use Rattle.aspif.specs.declared.error.TextError.{TextError}
 use Rattle.aspif.specs.declared.error.TextError.TheVariants.{Malformed, Unsupported, UnexpectedEnd}
-use Rattle.reader.specs.Fields.{and_then, field_at}
+use Rattle.reader.specs.Fields.{and_then, Field, field_at}
 use Rattle.reader.specs.Rows.{count_at, Row, row_at}
 use Rattle.reader.specs.Statements.{Stmt, rule, output, assumption, skipped}
 use Rattle.reader.specs.declared.pieces.After.TheVariants.{Space, ByKind}
-use Rattle.reader.specs.declared.pieces.Field.{Field}
-use Rattle.reader.specs.declared.pieces.Headed.{Headed}
 use Rattle.reader.specs.declared.pieces.Items.{Items}
 use Rattle.reader.specs.declared.pieces.Items.TheVariants as items
 use Rattle.reader.specs.declared.pieces.Count.{Count}
@@ -21,6 +19,14 @@ unfoldable pub counted_at : Count → Items → List ℕ → ℕ → Result Row 
 counted_at c i text at = and_then (count_at c text at) (λ n. row_at i n.count text n.next)
 
 -- Rules.
+
+-- the kind of a rule, and where the text goes on after it
+pub record Headed : Type 0 where
+  pub kind : Kind
+  pub next : ℕ
+
+abbrev pub headed_to : Kind → ℕ → Headed
+headed_to k next = record { kind = k; next = next }
 
 abbrev pub head_judged : ℕ → Field → Result Headed TextError
 head_judged at f = elim f.value [

@@ -5,11 +5,10 @@ use Rattle.aspif.specs.Texts.{heading}
 use Rattle.aspif.specs.declared.error.TextError.{TextError}
 use Rattle.aspif.specs.declared.error.TextError.TheVariants.{WrongHeading, OverLimit, TooShort}
 use Rattle.reader.specs.Fields.{and_then}
-use Rattle.reader.specs.Statements.{Stmt}
+use Rattle.reader.specs.Statements.{Stmt, assumed_in}
 use Rattle.reader.specs.Scan.{nothing, with_all, counts_of, statements_from}
-use Rattle.reader.specs.Fill.{NameLists, both, parts_in, starts_in, with_names}
+use Rattle.reader.specs.Fill.{NameLists, both, integers_in, parts_in, starts_in, with_names}
 use Rattle.reader.specs.declared.pieces.Counts.{Counts}
-use Rattle.reader.specs.declared.pieces.Part.TheVariants.{Integers, Assumed}
 
 -- the bytes xs stand at the front of ys
 abbrev pub begins : List ℕ → List ℕ → Bool
@@ -29,13 +28,13 @@ has_room C integers starts name_starts name_lengths assumed =
 -- what the lists hold after a text is read: each from its front on, and beyond that as before
 
 unfoldable pub integers_after : List Stmt → List ℤ → List ℤ
-integers_after ss xs = sets xs 0 (parts_in Integers ss)
+integers_after ss xs = sets xs 0 (parts_in integers_in ss)
 
 unfoldable pub starts_after : List Stmt → List ℕ → List ℕ
 starts_after ss xs = sets xs 0 (starts_in 0 ss)
 
 unfoldable pub assumed_after : List Stmt → List ℤ → List ℤ
-assumed_after ss xs = sets xs 0 (parts_in Assumed ss)
+assumed_after ss xs = sets xs 0 (parts_in assumed_in ss)
 
 -- no atom of the text has a name before the outputs give one
 abbrev pub unnamed : ℕ → List ℕ → List ℕ

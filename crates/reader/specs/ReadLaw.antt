@@ -1,5 +1,5 @@
 -- The laws of reading, in words of statements.
-use Rattle.std.specs.Prelude.{◌≡◌, ℕ, ◌≤◌, Bool, cond, List, [], ◌∷◌, map, length, take, ℤ, Some, None, Ok, Option, Result, ◌==◌}
+use Rattle.std.specs.Prelude.{◌≡◌, ℕ, ◌≤◌, Bool, false, cond, List, [], ◌∷◌, map, length, take, ℤ, Some, None, Ok, Option, Result, ◌==◌}
 use Rattle.std.proofs.lemmas.List.Edits.{sets}
 use Rattle.book.specs.Rules.{Rules, Lawful}
 use Rattle.book.specs.Encoding.{encode, starts_from}
@@ -56,10 +56,14 @@ name_of (output place name zs) = name
 name_of (assumption zs) = []
 name_of (skipped kind rest) = []
 
+abbrev pub is_atom : ℕ → Option ℕ → Bool
+is_atom a None = false
+is_atom a (Some b) = b == a
+
 -- the name that the first output for an atom gives it
 abbrev pub first_name : ℕ → List Stmt → Option (List ℕ)
 first_name a [] = None
-first_name a (s ∷ ss) = cond (atom_named s == a) (Some (name_of s)) (first_name a ss)
+first_name a (s ∷ ss) = cond (is_atom a (atom_named s)) (Some (name_of s)) (first_name a ss)
 
 -- the fronts of the lists that were filled, each as long as was answered, with the text that the names stand in
 pub record Fronts (C : Counts) (text : List ℕ) (integers : List ℤ) (starts places lengths : List ℕ) (L : RuleLists) : Type 0 where

@@ -6,15 +6,13 @@ use Rattle.book.specs.declared.kind.Kind.TheVariants.{Plain, Choice}
 use Rattle.numbers.specs.Numbers.{within, is_literal}
 use Rattle.aspif.specs.declared.error.TextError.{TextError}
 use Rattle.aspif.specs.declared.error.TextError.TheVariants.{Malformed, DisjunctiveHead, UnknownAtom, OverLimit}
-use Rattle.reader.specs.Fields.{and_then, field_at}
+use Rattle.reader.specs.Fields.{and_then, Field, field_at}
 use Rattle.reader.specs.declared.pieces.After.{After}
 use Rattle.reader.specs.declared.pieces.After.TheVariants.{Space, Newline, ByCount}
-use Rattle.reader.specs.declared.pieces.Field.{Field}
 use Rattle.reader.specs.declared.pieces.Items.{Items}
 use Rattle.reader.specs.declared.pieces.Items.TheVariants as items
 use Rattle.reader.specs.declared.pieces.Count.{Count}
 use Rattle.reader.specs.declared.pieces.Count.TheVariants as count
-use Rattle.reader.specs.declared.pieces.Counted.{Counted}
 
 -- the byte that has to stand after a count
 abbrev pub after_count : Count → After
@@ -40,6 +38,14 @@ count_fault (count.Heads k) at = head_fault k at
 count_fault count.Name at = OverLimit at
 count_fault count.Literals at = OverLimit at
 count_fault count.Assumed at = OverLimit at
+
+-- a count, and where the text goes on after it
+pub record Counted : Type 0 where
+  pub count : ℕ
+  pub next : ℕ
+
+abbrev pub counted_to : ℕ → ℕ → Counted
+counted_to n next = record { count = n; next = next }
 
 abbrev pub count_judged : Count → ℕ → Field → Result Counted TextError
 count_judged c at f = elim f.value [
@@ -87,7 +93,3 @@ row_end (Err e) = Err e
 abbrev pub row_values : Result Row TextError → List ℤ
 row_values (Ok r) = r.values
 row_values (Err e) = []
-
-abbrev pub on_row : {X : Type 0} → (Row → X) → Result Row TextError → Result X TextError
-on_row f (Ok r) = Ok (f r)
-on_row f (Err e) = Err e

@@ -1,5 +1,5 @@
 -- The statements of a text, and the first fault from the left where it is none.
-use Rattle.std.specs.Prelude.{ℕ, zero, suc, ◌+◌, max, Bool, true, false, cond, ◌&&◌, List, [], ◌∷◌, length, Ok, Err, Result, ◌==◌, nat_le}
+use Rattle.std.specs.Prelude.{ℕ, zero, suc, ◌+◌, max, Bool, cond, ◌&&◌, List, [], ◌∷◌, length, Ok, Err, Result, ◌==◌, nat_le}
 use Rattle.book.specs.Encoding.{encode}
 use Rattle.aspif.specs.declared.error.TextError.{TextError}
 use Rattle.aspif.specs.declared.error.TextError.TheVariants.{Malformed, OverLimit, UnexpectedEnd}
@@ -7,7 +7,6 @@ use Rattle.reader.specs.Fields.{and_then}
 use Rattle.reader.specs.Statements.{Stmt, greatest_in, rules_in, assumed_in}
 use Rattle.reader.specs.Lines.{Line, ended, said, line_at}
 use Rattle.reader.specs.declared.pieces.Counts.{Counts}
-use Rattle.reader.specs.declared.pieces.Step.{Step}
 
 abbrev pub nothing : Counts
 nothing = record { atoms = 0; rules = 0; integers = 0; assumed = 0 }
@@ -28,14 +27,6 @@ with_all C (s ∷ ss) = with_all (with_one C s) ss
 -- the limits on all lines together
 abbrev pub keeps : Counts → Bool
 keeps C = nat_le C.rules 2048 && (nat_le C.integers 16384 && nat_le C.assumed 1024)
-
--- after the line at a place: the limits are tested, and at the end that nothing follows
-abbrev pub step_by : Counts → List ℕ → ℕ → Line → Result Step TextError
-step_by C text at (ended next) = cond (next == length text) (Ok (record { counts = C; at = next; ended = true })) (Err (Malformed next))
-step_by C text at (said s next) = cond (keeps (with_one C s)) (Ok (record { counts = with_one C s; at = next; ended = false })) (Err (OverLimit at))
-
-unfoldable pub step_at : Counts → List ℕ → ℕ → Result Step TextError
-step_at C text at = and_then (line_at text at) (step_by C text at)
 
 abbrev pub before : Stmt → Result (List Stmt) TextError → Result (List Stmt) TextError
 before s (Ok ss) = Ok (s ∷ ss)

@@ -1,119 +1,89 @@
 // One number of a text.
-ghost use Rattle.std.specs.Prelude.{◌≡◌, ◌+◌, ◌<◌, ◌≤◌, true, length, IfOk};
-ghost use Rattle.std.specs.Char.{is_ascii_digit};
-ghost use Rattle.std.specs.List.{prefix_len};
-ghost use Rattle.reader.specs.Fields.{read_on, signed_by, minus_at, digits_from, judged, is_zero, goes_on, follows, formed, field_at};
+ghost use Rattle.std.specs.Prelude.{◌≡◌, ◌+◌, ◌<◌, ◌≤◌, length, IfOk, OnOk};
+ghost use Rattle.reader.specs.Fields.{minus_at, digits_from, goes_on, follows, field_at, field_to, stepped, byte_at};
 
-use crate::digits::{digits_end, digits_value};
-use crate::pieces::{After, Field};
+use crate::cursor::Cursor;
+use crate::digits::{Numeral, digits_count};
+use crate::pieces::After;
 use aspif::error::TextError;
 use base::parts::item_or;
 
+// The kinds of statement that have more numbers.
 fn goes_on(kind: i32) -> bool
     ensures { result ≡ goes_on kind }
 {
-    kind == 1 || kind == 4 || kind == 6
+    matches!(kind, 1 | 4 | 6)
 }
 
-fn is_zero(value: i32) -> bool
-    ensures { result ≡ is_zero value }
-{
-    value == 0
-}
-
-fn may_follow(after: After, value: i32, byte: u8) -> bool
-    ensures { result ≡ follows after value byte }
-{
-    match after {
-        After::Space => byte == b' ',
-        After::Newline => byte == b'\n',
-        After::ByCount => {
-            if is_zero(value) {
-                byte == b'\n'
-            } else {
-                byte == b' '
-            }
+impl After {
+    // Whether a byte may stand after a number.
+    fn allows(self, value: i32, byte: u8) -> bool
+        ensures { result ≡ follows self value byte }
+    {
+        match self {
+            After::Space => byte == b' ',
+            After::Newline => byte == b'\n',
+            After::ByCount if value == 0 => byte == b'\n',
+            After::ByCount => byte == b' ',
+            After::ByKind => (byte == b' ' && value != 0) || (byte == b'\n' && !goes_on(value)),
         }
-        After::ByKind => { (byte == b' ' && !is_zero(value)) || (byte == b'\n' && !goes_on(value)) }
     }
 }
 
-// One to nine digits, no leading zero, and no zero after a minus.
-fn is_formed(minus: bool, digits: &[u8]) -> bool
-    ensures { result ≡ formed minus digits.now }
-{
-    let n = digits.len();
-    !(n == 0 || n > 9 || (digits[0] == b'0' && (minus || n > 1)))
-}
-
-// The number that such digits write.
-fn value_of(minus: bool, digits: &[u8]) -> i32
-    requires { (formed minus digits.now ≡ true) × (prefix_len is_ascii_digit digits.now ≡ length digits.now) }
-    ensures { result ≡ signed_by minus (read_on 0 digits.now) }
-{
-    let size = digits_value(digits) as i32;
-    if minus { -size } else { size }
-}
-
-fn is_minus(text: &[u8], at: usize) -> bool
-    ensures { result ≡ minus_at text.now at }
-{
-    item_or(text, at, 0) == b'-'
-}
-
-// Where the digits of the number at a place begin.
-fn digits_start(text: &[u8], at: usize) -> usize
-    requires { at ≤ 65536 }
-    ensures start { result ≡ digits_from text.now at }
-    ensures bound { (result ≤ at + 1) × (at ≤ result) }
-{
-    if is_minus(text, at) { at + 1 } else { at }
-}
-
-// Digits, and the byte after them at a place.
-fn judge(
-    after: After,
-    minus: bool,
-    digits: &[u8],
-    ending: u8,
-    at: usize,
-    end: usize,
-) -> Result<Field, TextError>
-    requires { (prefix_len is_ascii_digit digits.now ≡ length digits.now) × ((at ≤ 65536) × (end ≤ 65536)) }
-    ensures field { result ≡ judged after minus digits.now ending at end }
-    ensures next { IfOk result (λ f. f.next ≡ end + 1) }
-{
-    if !is_formed(minus, digits) {
-        return Err(TextError::Malformed(at as u32));
+impl Cursor<'_> {
+    fn is_minus(&self) -> bool
+        ensures { result ≡ minus_at self.now.text.now self.now.at }
+    {
+        item_or(self.text, self.at, 0) == b'-'
     }
-    let value = value_of(minus, digits);
-    if !may_follow(after, value, ending) {
-        return Err(TextError::Malformed(at as u32));
-    }
-    Ok(Field {
-        value,
-        ending,
-        next: end + 1,
-    })
-}
 
-pub(crate) fn field(text: &[u8], at: usize, after: After) -> Result<Field, TextError>
-    requires { (at ≤ length text.now) × (length text.now ≤ 65536) }
-    ensures field { result ≡ field_at after text.now at }
-    ensures within { IfOk result (λ f. f.next ≤ length text.now) }
-    ensures beyond { IfOk result (λ f. at < f.next) }
-{
-    let from = digits_start(text, at);
-    let end = digits_end(text, from);
-    if end >= text.len() {
-        return Err(TextError::UnexpectedEnd(text.len() as u32));
+    // Where the digits of the next number begin.
+    fn digits_start(&self) -> usize
+        ensures start { result ≡ digits_from self.now.text.now self.now.at }
+        ensures bound { (self.now.at ≤ result) × (result ≤ length self.now.text.now) }
+    {
+        if self.is_minus() {
+            self.at + 1
+        } else {
+            self.at
+        }
     }
-    judge(
-        after,
-        is_minus(text, at),
-        &text[from..end],
-        text[end],
-        at,
-        end,
-    )
+
+    // The byte at a place, after which the text goes on.
+    pub(crate) fn byte(&mut self, at: usize) -> Result<u8, TextError>
+        ensures byte { result ≡ byte_at self.old.text.now at }
+        ensures next { OnOk result (self.new.at ≡ at + 1) }
+        ensures same_text { self.new.text ≡ self.old.text }
+    {
+        let text = self.text;
+        let Some(byte) = text.get(at) else {
+            return Err(TextError::UnexpectedEnd(text.len() as u32));
+        };
+        self.at = at + 1;
+        Ok(*byte)
+    }
+
+    // A number, and the byte after it.
+    #[tactic(auto, using(crate::proofs::Scans::number_steps))]
+    pub(crate) fn field(&mut self, after: After) -> Result<i32, TextError>
+        ensures field { stepped (field_to self.old.text.now) result self.new.at ≡ field_at after self.old.text.now self.old.at }
+        ensures same_text { self.new.text ≡ self.old.text }
+        ensures forward { IfOk result (λ _. self.old.at < self.new.at) }
+    {
+        let malformed = TextError::Malformed(self.at as u32);
+        let from = self.digits_start();
+        let end = from + digits_count(&self.text[from..]);
+        let numeral = Numeral {
+            minus: self.is_minus(),
+            digits: &self.text[from..end],
+        };
+        let ending = self.byte(end)?;
+        let Some(value) = numeral.value() else {
+            return Err(malformed);
+        };
+        if !after.allows(value, ending) {
+            return Err(malformed);
+        }
+        Ok(value)
+    }
 }

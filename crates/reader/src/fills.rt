@@ -1,150 +1,67 @@
-// The numbers of statements, put into the caller's lists.
-ghost use Rattle.std.specs.Prelude.{◌≡◌, ◌+◌, ◌≤◌, true, [], ◌∷◌, length, pos, is_ok, IfOk, Ok};
+// What statements hold, put into the lists of the caller.
+ghost use Rattle.std.specs.Prelude.{◌≡◌, ◌≤◌, length, Ok};
 ghost use Rattle.std.proofs.lemmas.List.Edits.{sets};
-ghost use Rattle.book.specs.Encoding.{head_type, encode_rule};
-ghost use Rattle.reader.specs.Fill.{said_from, listed, part_in, parts_in, line_adds, turn_of};
-ghost use Rattle.reader.specs.Lines.{line_at};
-ghost use Rattle.reader.specs.Seen.{numbers_in, rule_meant, meant, Readable, Sound};
-ghost use Rattle.reader.specs.declared.pieces.Items.TheVariants.{Heads, Literals};
+ghost use Rattle.reader.specs.Statements.{assumed_in};
+ghost use Rattle.reader.specs.Fill.{integers_in, parts_in, starts_in, both, with_names};
+ghost use Rattle.reader.specs.Seen.{statements_left};
 
-use crate::line::Line;
-use crate::lines::line_at;
-use crate::pieces::{Items, Part, Turn};
-use crate::rows::item_at;
-use crate::statement::{Numbers, Statement};
-use aspif::error::TextError;
-use book::kind::Kind;
+use crate::names::put_name;
+use crate::puts::{put_numbers, put_rule};
+use crate::statement::Statement;
+use crate::statements::Statements;
+use base::pen::Pen;
+use base::short::TooShort;
 
-// Numbers that can be read, from a place of the list on; answers the place after them.
-fn put_numbers(
-    out: &mut [i32],
-    at: usize,
-    numbers: Numbers<'_>,
-    items: Items,
-) -> Result<usize, TextError>
-    requires { (Readable items numbers) × (at + numbers.count ≤ length out.old) }
-    ensures end { result ≡ Ok (at + numbers.entry.count) }
-    ensures list { out.new ≡ sets out.old at (numbers_in items numbers.entry) }
+// The integers of all rules, and where each rule starts among them, from the fronts of two lists on.
+pub(crate) fn fill_rules(
+    statements: Statements<'_>,
+    integers: &mut [i32],
+    starts: &mut [u32],
+) -> Result<(), TooShort>
+    requires integers { length (parts_in integers_in (statements_left statements)) ≤ length integers.old }
+    requires starts { length (starts_in 0 (statements_left statements)) ≤ length starts.old }
+    requires few { length (parts_in integers_in (statements_left statements)) ≤ 16384 }
+    ensures done { result ≡ Ok tt }
+    ensures integers { integers.new ≡ sets integers.old 0 (parts_in integers_in (statements_left statements.entry)) }
+    ensures starts { starts.new ≡ sets starts.old 0 (starts_in 0 (statements_left statements.entry)) }
 {
-    let bytes = numbers.bytes;
-    let count = numbers.count;
-    let mut from = 0usize;
-    for i in 0..count {
-        let number = item_at(bytes, from, items, count - (i + 1))?;
-        out[at + i as usize] = number.value;
-        from = number.next;
-    }
-    Ok(at + count as usize)
-}
-
-fn head_type(kind: Kind) -> u32
-    ensures head { pos result ≡ head_type kind }
-    ensures bound { result ≤ 1 }
-{
-    match kind {
-        Kind::Plain => 0,
-        Kind::Choice => 1,
-    }
-}
-
-// A count, as a list of integers has it.
-fn put_count(out: &mut [i32], at: usize, first: u32, count: u32) -> usize
-    requires { (at + 2 ≤ length out.old) × ((first ≤ 1) × (count ≤ 65536)) }
-    ensures end { result ≡ at + 2 }
-    ensures list { out.new ≡ sets out.old at (pos first ∷ pos count ∷ []) }
-{
-    out[at] = first as i32;
-    out[at + 1] = count as i32;
-    at + 2
-}
-
-fn put_rule(
-    out: &mut [i32],
-    at: usize,
-    kind: Kind,
-    heads: Numbers<'_>,
-    body: Numbers<'_>,
-) -> Result<usize, TextError>
-    requires { (Readable Heads heads) × ((Readable Literals body) × (at + (4 + heads.count + body.count) ≤ length out.old)) }
-    ensures end { result ≡ Ok (at + (4 + heads.entry.count + body.entry.count)) }
-    ensures list { out.new ≡ sets out.old at (encode_rule (rule_meant kind heads.entry body.entry)) }
-{
-    let start = put_count(out, at, head_type(kind), heads.count);
-    let middle = put_numbers(out, start, heads, Items::Heads)?;
-    let rest = put_count(out, middle, 0, body.count);
-    put_numbers(out, rest, body, Items::Literals)
-}
-
-// One statement's part of a list; answers the place after it.
-fn put_part(
-    part: Part,
-    out: &mut [i32],
-    at: usize,
-    statement: Statement<'_>,
-) -> Result<usize, TextError>
-    requires { (Sound statement) × (at + length (part_in part (meant statement)) ≤ length out.old) }
-    ensures end { result ≡ Ok (at + length (part_in part (meant statement.entry))) }
-    ensures list { out.new ≡ sets out.old at (part_in part (meant statement.entry)) }
-{
-    match (part, statement) {
-        (Part::Integers, Statement::Rule { kind, heads, body }) => put_rule(
-            out, at, kind, heads, body,
-        ),
-        (Part::Assumed, Statement::Assumption { literals }) => put_numbers(
-            out,
-            at,
-            literals,
-            Items::Literals,
-        ),
-        _ => Ok(at),
-    }
-}
-
-// One line's part of a list.
-fn put_line(
-    part: Part,
-    text: &[u8],
-    at: usize,
-    out: &mut [i32],
-    to: usize,
-) -> Result<Turn, TextError>
-    requires { (at ≤ length text.now) × ((length text.now ≤ 65536) × (to + length (line_adds part (line_at text.now at)) ≤ length out.old)) }
-    ensures turn { result ≡ turn_of part to (line_at text.now at) }
-    ensures list { out.new ≡ sets out.old to (line_adds part (line_at text.now at)) }
-    ensures within { IfOk result (λ t. t.at ≤ length text.now) }
-{
-    match line_at(text, at)? {
-        Line::End(next) => Ok(Turn {
-            at: next,
-            to,
-            ended: true,
-        }),
-        Line::Said(statement, next) => {
-            let end = put_part(part, out, to, statement)?;
-            Ok(Turn {
-                at: next,
-                to: end,
-                ended: false,
-            })
+    let mut integers = Pen {
+        out: integers,
+        at: 0,
+    };
+    let mut starts = Pen { out: starts, at: 0 };
+    for statement in statements {
+        if let Statement::Rule(rule) = statement {
+            starts.put_all(&[integers.at as u32])?;
+            put_rule(&mut integers, rule)?;
         }
     }
+    Ok(())
 }
 
-// The parts of all statements, from the front of a list on; answers how many integers they are.
-pub(crate) fn fill(part: Part, text: &[u8], out: &mut [i32]) -> Result<usize, TextError>
-    requires { (10 ≤ length text.now) × ((length text.now ≤ 65536) × ((is_ok (said_from (length text.now) text.now 10) ≡ true) × (length (parts_in part (listed (said_from (length text.now) text.now 10))) ≤ length out.old))) }
-    ensures end { result ≡ Ok (length (parts_in part (listed (said_from (length text.now) text.now 10)))) }
-    ensures list { out.new ≡ sets out.old 0 (parts_in part (listed (said_from (length text.now) text.now 10))) }
+// The assumed literals, from the front of a list on.
+pub(crate) fn fill_assumed(statements: Statements<'_>, out: &mut [i32]) -> Result<(), TooShort>
+    requires room { length (parts_in assumed_in (statements_left statements)) ≤ length out.old }
+    ensures done { result ≡ Ok tt }
+    ensures list { out.new ≡ sets out.old 0 (parts_in assumed_in (statements_left statements.entry)) }
 {
-    let mut at = 10;
-    let mut to = 0;
-    for _line in 0..text.len() {
-        let turn = put_line(part, text, at, out, to)?;
-        if turn.ended {
-            return Ok(turn.to);
+    let mut pen = Pen { out, at: 0 };
+    for statement in statements {
+        if let Statement::Assumption(literals) = statement {
+            put_numbers(&mut pen, literals)?;
         }
-        at = turn.at;
-        to = turn.to;
     }
-    Err(TextError::UnexpectedEnd(text.len() as u32))
+    Ok(())
+}
+
+// The names that outputs give, into lists where no atom has one yet.
+pub(crate) fn fill_names(statements: Statements<'_>, places: &mut [u32], lengths: &mut [u32])
+    ensures places { places.new ≡ (with_names (both places.old lengths.old) (statements_left statements.entry)).starts }
+    ensures lengths { lengths.new ≡ (with_names (both places.old lengths.old) (statements_left statements.entry)).lengths }
+{
+    for statement in statements {
+        if let Statement::Output(output) = statement {
+            put_name(places, lengths, output);
+        }
+    }
 }

@@ -1,15 +1,18 @@
 // Program texts, read.
 #![tactic(auto)]
 
+pub mod cursor;
 mod digits;
 mod fields;
 mod fills;
-pub mod line;
 mod lines;
+pub mod lists;
 mod names;
 pub mod pieces;
+mod puts;
 pub mod reading;
 mod rows;
-mod starts;
 pub mod statement;
+mod statements;
 mod survey;
+mod values;

@@ -1,4 +1,5 @@
 use aspif::error::TextError;
+use reader::lists::Lists;
 use reader::pieces::Counts;
 use reader::reading::read;
 
@@ -11,14 +12,14 @@ fn every_list_is_filled_from_its_front(rt: HostRuntime) {
     let mut places = [9; 5];
     let mut lengths = [9; 5];
     let mut assumed = [9; 3];
-    let answer = read(
-        text,
-        &mut integers,
-        &mut starts,
-        &mut places,
-        &mut lengths,
-        &mut assumed,
-    );
+    let mut lists = Lists {
+        integers: &mut integers,
+        starts: &mut starts,
+        places: &mut places,
+        lengths: &mut lengths,
+        assumed: &mut assumed,
+    };
+    let answer = read(text, &mut lists);
     assert_eq!(rt;
         answer,
         Ok(Counts {
@@ -36,14 +37,14 @@ fn every_list_is_filled_from_its_front(rt: HostRuntime) {
 }
 
 fn refusal(text: &[u8]) -> Result<Counts, TextError> {
-    read(
-        text,
-        &mut [0; 4],
-        &mut [0; 1],
-        &mut [0; 1],
-        &mut [0; 1],
-        &mut [0; 1],
-    )
+    let mut lists = Lists {
+        integers: &mut [0; 4],
+        starts: &mut [0; 1],
+        places: &mut [0; 1],
+        lengths: &mut [0; 1],
+        assumed: &mut [0; 1],
+    };
+    read(text, &mut lists)
 }
 
 #[test]

@@ -12,16 +12,6 @@ use book::error::BookError;
 use sheet::error::SheetError;
 
 impl Fault {
-    pub fn refusal(&self) -> Refusal
-        ensures { result ≡ refusal_of self.now }
-    {
-        match self {
-            Fault::Text(e) => e.refusal(),
-            Fault::Book(e) => e.refusal(),
-            Fault::Sheet(e) => e.refusal(),
-        }
-    }
-
     pub fn layer(&self) -> Layer
         ensures { result ≡ layer_of self.now }
     {
@@ -33,6 +23,19 @@ impl Fault {
     }
 }
 
+impl From<Fault> for Refusal {
+    ghost from_gives = { λ f r. r ≡ refusal_of f };
+
+    fn from(fault: Fault) -> Refusal {
+        match fault {
+            Fault::Text(e) => e.into(),
+            Fault::Book(e) => e.into(),
+            Fault::Sheet(e) => e.into(),
+        }
+    }
+}
+
+// Written out, since clauses say which fault a refusal becomes.
 impl From<TextError> for Fault {
     ghost from_gives = { λ e f. f ≡ FaultText e };
 

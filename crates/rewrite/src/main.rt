@@ -2,6 +2,7 @@
 #![tactic(auto)]
 
 use anyhow::anyhow;
+use reader::lists::Lists;
 use report::rewriting::rewrite_or_tell;
 use std::io::{Read, Write};
 
@@ -15,15 +16,20 @@ fn run(rt: &HostRuntime) -> anyhow::Result<()> {
     let mut text = vec![in heap; 0u8; 0]?;
     rt.stdin().take(TAKEN).read_to_end(&mut text)?;
     let mut out = vec![in heap; 0u8; ROOM]?;
-    let answer = rewrite_or_tell(
-        &text,
-        &mut vec![in heap; 0i32; 16_384]?,
-        &mut vec![in heap; 0u32; 2048]?,
-        &mut vec![in heap; 0u32; 1024]?,
-        &mut vec![in heap; 0u32; 1024]?,
-        &mut vec![in heap; 0i32; 1024]?,
-        &mut out,
-    );
+    // Room for every text that can be read. A call that lends five lists of what it owns would owe a promise for each.
+    let mut integers = vec![in heap; 0i32; 16_384]?;
+    let mut starts = vec![in heap; 0u32; 2048]?;
+    let mut places = vec![in heap; 0u32; 1024]?;
+    let mut lengths = vec![in heap; 0u32; 1024]?;
+    let mut assumed = vec![in heap; 0i32; 1024]?;
+    let mut lists = Lists {
+        integers: &mut integers,
+        starts: &mut starts,
+        places: &mut places,
+        lengths: &mut lengths,
+        assumed: &mut assumed,
+    };
+    let answer = rewrite_or_tell(&text, &mut lists, &mut out);
     let Ok(size) = answer else {
         return Err(anyhow!("no room for the line that tells the refusal"));
     };

@@ -1,7 +1,7 @@
 -- The laws of the body tests: all that the other proofs know of a body.
 use Rattle.std.proofs.Common.{◌≡◌, ℕ, suc, Bool, true, false, not, ◌↔◌, ℤ, pos, negsuc, Some, None, inl, inr}
 use Rattle.std.proofs.lemmas.Bool.{not-true, not-false, not_from_true, not_from_false, or_cases, or_left, or_right}
-use Rattle.base.specs.Search.{every}
+use Rattle.std.specs.List.{list_all}
 use Rattle.base.proofs.Search.{every_all, all_every}
 use Rattle.book.specs.Rules.{Rule, LawfulRule, Atom, Literal}
 use Rattle.sheet.specs.Marks.{Atoms, Marks, says}
@@ -66,11 +66,11 @@ true_more M N A h ρ = every_more (literal_true M A) (literal_true N A) one ρ.b
 
 -- nothing is missing exactly where all the body passes
 module _ (test : ℤ → Bool) (ρ : Rule) where
-  all_met : first_unmet test (Some ρ) ≡ None → every test ρ.body ≡ true
+  all_met : first_unmet test (Some ρ) ≡ None → list_all test ρ.body ≡ true
   unfolding first_unmet
   all_met e = all_every test (λ z. not (test z) ≡ false) (λ z. not-false (test z)) ρ.body (none_at (λ z. not (test z)) ρ.body e)
 
-  none_unmet : every test ρ.body ≡ true → first_unmet test (Some ρ) ≡ None
+  none_unmet : list_all test ρ.body ≡ true → first_unmet test (Some ρ) ≡ None
   unfolding first_unmet
   none_unmet e = at_none (λ z. not (test z)) ρ.body (every_all test (λ z. not (test z) ≡ false) (λ z. not_from_true (test z)) ρ.body e)
 

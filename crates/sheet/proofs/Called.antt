@@ -1,21 +1,18 @@
 -- From what a call's parts say to what the call leaves.
-use Rattle.std.proofs.Common.{◌≡◌, ℕ, ◌+◌, ◌-◌, ◌<◌, ◌≤◌, Bool, true, false, not, List, [], ◌∷◌, ◌++◌, length, take, drop, set, ℤ, is_ok, Some, None, Ok, Err, Option, sym, ap, ◌∙◌, subst, arith}
+use Rattle.std.proofs.Common.{◌≡◌, ℕ, ◌<◌, ◌≤◌, true, false, not, List, [], length, set, ℤ, is_ok, Some, None, Ok, Err, Option, sym, ap, ◌∙◌, subst, arith}
 use mathlib.Core.Path.{fun_ext}
 use Rattle.std.proofs.lemmas.Bool.{cond-false, not_from_true}
 use Rattle.book.specs.Rules.{Rules, Lawful}
-use Rattle.sheet.specs.declared.error.SheetError.{SheetError}
 use Rattle.sheet.specs.declared.error.SheetError.TheVariants.{ViolatedRule}
 use Rattle.sheet.specs.declared.mark.Mark.{Mark}
 use Rattle.sheet.specs.declared.proposal.Proposal.{Proposal}
 use Rattle.sheet.specs.Complete.{completed, unmarked, complete_call}
 use Rattle.sheet.specs.Lists.{how_many}
-use Rattle.sheet.specs.Marks.{Atoms, Marks, is_atom, is_unmarked, claim, mark_for}
-use Rattle.sheet.specs.States.{State, marks, with_entries, After}
-use Rattle.sheet.specs.Verdicts.{Verdict, verdict}
-use Rattle.sheet.specs.Enter.{enter_by, enter_call, enter_all}
-use Rattle.sheet.specs.Strike.{place_of, without, strike_at, strike_call}
+use Rattle.sheet.specs.Marks.{Atoms, Marks, is_unmarked, claim, mark_for}
+use Rattle.sheet.specs.States.{State, marks, After}
+use Rattle.sheet.specs.Verdicts.{verdict}
 use Rattle.sheet.specs.Open.{positives, negatives, first_fault, first_broken, open_rules, open_list, open_call}
-use Rattle.sheet.specs.Kept.{flagged, marking, unmarked_in, open_with}
+use Rattle.sheet.specs.Kept.{marking, unmarked_in}
 use Rattle.sheet.proofs.Stored.{state_from, unmarked_less}
 use Rattle.sheet.proofs.Verdicts.{verdict_allowed}
 use Rattle.sheet.specs.Sound.{Sound}
@@ -26,30 +23,16 @@ use Rattle.sheet.proofs.Law.{sound_reliable}
 abbrev pub viewed : Rules → State → View
 viewed R s = record { rules = R; state = s }
 
--- a verdict on the marks that a list keeps
-pub judged : (R : Rules) (A B : Atoms) (ms : List Mark) (m : Marks) (P : Proposal) (r : Verdict) → r ≡ verdict R A (marking ms) P → A ≡ B → ((a : ℕ) → marking ms a ≡ m a) → r ≡ verdict R B m P
-judged R A B ms m P r e a tied = e ∙ ap (λ C. verdict R C (marking ms) P) a ∙ ap (λ n. verdict R B n P) (fun_ext tied)
-
-module _ (R : Rules) (s : State) (P : Proposal) (is_open : s.opened ≡ true) where
-  by_verdict : (r : Verdict) → r ≡ verdict R s.answer (marks s) P → enter_by s P r ≡ enter_call R s P
-  by_verdict r e = ap (enter_by s P) e ∙ sym (cond-false (not s.opened) _ _ (not_from_true s.opened is_open))
-
-  pub enter_takes : (es : List Proposal) → Ok tt ≡ verdict R s.answer (marks s) P → es ≡ s.entries ++ (P ∷ []) → ◌≡◌ {A = Left (Unit {0})} (Ok tt, viewed R (with_entries s es)) (leaving (λ Q t. enter_call Q t P) (viewed R s))
-  enter_takes es e push = ap (λ x. (Ok tt, viewed R (with_entries s x))) push ∙ ap (λ (o : After (Unit {0})). (o.0, viewed R o.1)) (by_verdict (Ok tt) e)
-
-  pub enter_refuses : (x : SheetError) → Err x ≡ verdict R s.answer (marks s) P → ◌≡◌ {A = Left (Unit {0})} (Err x, viewed R s) (leaving (λ Q t. enter_call Q t P) (viewed R s))
-  enter_refuses x e = ap (λ (o : After (Unit {0})). (o.0, viewed R o.1)) (by_verdict (Err x) e)
-
 -- an atom that is allowed has a place in the list of marks, and leaves one unmarked atom less
 pub record Placed (ms : List Mark) (P : Proposal) : Type 0 where
   pub within : P.atom < length ms
   pub less : unmarked_in (set ms P.atom (mark_for (claim P.reason))) < unmarked_in ms
 
-pub placed : (R : Rules) (A : Atoms) (ms : List Mark) (P : Proposal) → R.atoms ≤ 1024 → length ms ≡ 1025 → Ok tt ≡ verdict R A (marking ms) P → Placed ms P
-placed R A ms P few size e =
-    let allowed = verdict_allowed R A (marking ms) P (ap is_ok (sym e)) in
+pub placed : (R : Rules) (A : Atoms) (m : Marks) (ms : List Mark) (P : Proposal) → R.atoms ≤ 1024 → length ms ≡ 1025 → ((a : ℕ) → marking ms a ≡ m a) → Ok tt ≡ verdict R A m P → Placed ms P
+placed R A m ms P few size tied e =
+    let allowed = verdict_allowed R A m P (ap is_ok (sym e)) in
     let within : P.atom < length ms = omega (arith, allowed.atom, few, size) in
-    record { within = within; less = unmarked_less ms P within allowed.atom.0 (omega (arith, allowed.atom, few)) allowed.unmarked }
+    record { within = within; less = unmarked_less ms P within allowed.atom.0 (omega (arith, allowed.atom, few)) (tied P.atom ∙ allowed.unmarked) }
 
 -- Opening.
 
@@ -66,23 +49,6 @@ module _ (R : Rules) (s : State) (zs : List ℤ) (shut : s.opened ≡ false) (fa
   open_violates A B Y rule a b y found =
       ap (λ C. (Err (ViolatedRule rule), viewed R (state_from s.opened C Y s.entries))) b ∙ ap (λ Z. (Err (ViolatedRule rule), viewed R (state_from s.opened s.answer Z s.entries))) y
       ∙ ap (λ (o : After (Unit {0})). (o.0, viewed R o.1)) (by_broken (Some rule) (found ∙ ap (first_broken R) a))
-
--- Striking.
-
--- what is kept, from the lists as they were lent to the sheet's own
-pub struck_is : (R : Rules) (opened : Bool) (flags bs ds es : List Bool) (fs gs new : List Proposal) (at : ℕ) → opened ≡ true → bs ≡ flags → ds ≡ es → gs ≡ fs
-    → open_with bs ds new ≡ enter_all R (open_with bs ds (take at gs)) (drop (at + 1) gs)
-    → state_from opened (flagged flags) (flagged es) new ≡ without R (state_from opened (flagged flags) (flagged es) fs) at
-struck_is R opened flags bs ds es fs gs new at o b d g e =
-    let P : Bool → List Bool → List Bool → List Proposal → Type 0 = λ x us ys ps. state_from x (flagged us) (flagged ys) new ≡ enter_all R (state_from x (flagged us) (flagged ys) (take at ps)) (drop (at + 1) ps) in
-    subst (λ x. P x flags es fs) (sym o) (subst (λ us. P true us es fs) b (subst (λ ys. P true bs ys fs) d (subst (P true bs ds) g e)))
-
-pub strike_takes : (R : Rules) (s : State) (p at n : ℕ) (new : List Proposal) → s.opened ≡ true → is_atom R p ≡ true → Some at ≡ place_of s.entries p → n ≡ length s.entries - length new → with_entries s new ≡ without R s at → ◌≡◌ {A = Left ℕ} (Ok n, viewed R (with_entries s new)) (leaving (λ Q t. strike_call Q t p) (viewed R s))
-strike_takes R s p at n new is_open known place size is =
-    ap (λ k. (Ok k, viewed R (with_entries s new))) size
-    ∙ ap (λ t. (Ok (length s.entries - length t.entries), viewed R t)) is
-    ∙ ap (λ (o : After ℕ). (o.0, viewed R o.1))
-    (ap (strike_at R s) place ∙ sym (cond-false (not (is_atom R p)) _ _ (not_from_true (is_atom R p) known)) ∙ sym (cond-false (not s.opened) _ _ (not_from_true s.opened is_open)))
 
 -- Completing.
 

@@ -1,5 +1,6 @@
 -- How many of the numbers 1 to n pass a test.
-use Rattle.std.proofs.Common.{◌≡◌, ℕ, zero, suc, ◌<◌, ◌≤◌, Bool, true, false, ◌≢◌, refl, inl, inr, arith}
+use Rattle.std.proofs.Common.{◌≡◌, ℕ, zero, suc, ◌+◌, ◌<◌, ◌≤◌, Bool, true, false, cond, ◌≢◌, List, ◌∷◌, length, filter, sym, refl, ap, ◌∙◌, inl, inr, add-zero, zero-add, add-one, arith}
+use Rattle.std.specs.List.{range_with_len}
 use Rattle.std.proofs.lemmas.Bool.{cases_eq}
 use Rattle.std.proofs.lemmas.Bool.Decides.{nat_tests}
 use Rattle.book.specs.Rules.{Atom}
@@ -46,3 +47,20 @@ module _ (f g : ℕ → Bool) (p : ℕ) (same : (a : ℕ) → a ≢ p → f a �
     | inl e ↦ let k = count_below n (omega arith) in grind (arith, nat_tests)
     | inr e ↦ let k = count_one_less n in let here = same (suc n) e in grind (arith, nat_tests)
   ]
+
+-- the numbers 1 to n, as a range gives them
+turn : (b : Bool) (count x : ℕ) (xs : List ℕ) → count + length (cond b (x ∷ xs) xs) ≡ cond b (suc count) count + length xs
+turn true count x xs = omega arith
+turn false count x xs = refl
+
+module _ (f : ℕ → Bool) where
+  counted_above : (n m : ℕ) → how_many f m + length (filter f (range_with_len (m + 1) n)) ≡ how_many f (m + n)
+  counted_above zero m = simp add-zero
+  counted_above (suc n) m =
+      let rest = range_with_len (m + 1 + 1) n in
+      let here : how_many f (m + 1) ≡ cond (f (m + 1)) (suc (how_many f m)) (how_many f m) = simp add-one in
+      let next : m + 1 + n ≡ m + suc n = omega arith in
+      turn (f (m + 1)) (how_many f m) (m + 1) (filter f rest) ∙ ap (λ k. k + length (filter f rest)) (sym here) ∙ counted_above n (m + 1) ∙ ap (how_many f) next
+
+  pub counted : (n : ℕ) → length (filter f (range_with_len 1 n)) ≡ how_many f n
+  counted n = simp zero-add at (counted_above n 0)

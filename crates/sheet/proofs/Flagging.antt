@@ -11,14 +11,6 @@ use Rattle.sheet.proofs.Members.{all_from}
 use Rattle.sheet.proofs.Opening.{known}
 use Rattle.sheet.specs.Kept.{flagged, marking, with_positives, with_negatives, mark_assumed}
 
-pub positives_more : (flags : List Bool) (z : ℤ) (zs : List ℤ) → with_positives (with_positives flags (z ∷ [])) zs ≡ with_positives flags (z ∷ zs)
-positives_more flags (pos a) zs = refl
-positives_more flags (negsuc a) zs = refl
-
-pub negatives_more : (flags : List Bool) (z : ℤ) (zs : List ℤ) → with_negatives (with_negatives flags (z ∷ [])) zs ≡ with_negatives flags (z ∷ zs)
-negatives_more flags (pos a) zs = refl
-negatives_more flags (negsuc a) zs = refl
-
 -- an atom is flagged afterwards if it was before, or if it is among the literals
 
 flag_set : (flags : List Bool) (p a : ℕ) → p < length flags → flagged (set flags p true) a ≡ (eqb a p || flagged flags a)

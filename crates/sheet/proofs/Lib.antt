@@ -1,6 +1,7 @@
 pub mod Members
 pub mod Searches
 pub mod Counts
+pub mod Ranges
 pub mod Agreement
 pub mod Bodies
 pub mod Verdicts

@@ -1,10 +1,9 @@
 -- Elements of lists, and what tests of a list tell of them.
 use Rattle.std.proofs.Common.{◌≡◌, ℕ, zero, suc, ◌<◌, ◌≤◌, Bool, true, eqb, ◌⊎◌, List, [], ◌∷◌, length, take, Some, sym, refl, ap, ◌∙◌, subst, inl, inr, arith}
-use Rattle.std.specs.List.{AllByRecursion as Each, slice_get}
+use Rattle.std.specs.List.{AllByRecursion as Each, slice_get, list_all, list_any}
 use Rattle.std.proofs.lemmas.Bool.{or_cases, or_left, or_right, eq-eqb, eqb-true, false≢true}
-use Rattle.base.specs.Search.{every}
 use Rattle.base.proofs.Search.{every_all, all_every}
-use Rattle.sheet.specs.Lists.{some, has}
+use Rattle.sheet.specs.Lists.{has}
 
 abbrev pub In : {X : Type 0} → X → List X → Type 0
 In x [] = ⊥
@@ -20,31 +19,31 @@ all_from P [] h = tt
 all_from P (x ∷ xs) h = (h x (inl refl), all_from P xs (λ y i. h y (inr i)))
 
 module _ {X : Type 0} (p : X → Bool) (xs : List X) where
-  pub every_at : (x : X) → every p xs ≡ true → In x xs → p x ≡ true
+  pub every_at : (x : X) → list_all p xs ≡ true → In x xs → p x ≡ true
   every_at x e = all_in (λ y. p y ≡ true) xs x (every_all p (λ y. p y ≡ true) (λ _ h. h) xs e)
 
-  pub every_from : ((x : X) → In x xs → p x ≡ true) → every p xs ≡ true
+  pub every_from : ((x : X) → In x xs → p x ≡ true) → list_all p xs ≡ true
   every_from h = all_every p (λ y. p y ≡ true) (λ _ e. e) xs (all_from (λ y. p y ≡ true) xs h)
 
 module _ {X : Type 0} (p : X → Bool) where
-  pub some_at : (xs : List X) → some p xs ≡ true → (x : X) × In x xs × (p x ≡ true)
+  pub some_at : (xs : List X) → list_any p xs ≡ true → (x : X) × In x xs × (p x ≡ true)
   some_at [] e = absurd (false≢true e)
-  some_at (y ∷ ys) e = elim (or_cases (p y) (some p ys) e) [
+  some_at (y ∷ ys) e = elim (or_cases (p y) (list_any p ys) e) [
     | inl h ↦ (y, inl refl, h)
     | inr h ↦ let r = some_at ys h in (r.0, inr r.1, r.2)
   ]
 
-  pub some_from : (xs : List X) (x : X) → In x xs → p x ≡ true → some p xs ≡ true
+  pub some_from : (xs : List X) (x : X) → In x xs → p x ≡ true → list_any p xs ≡ true
   some_from [] x i h = absurd i
-  some_from (y ∷ ys) x (inl q) h = or_left (p y) (some p ys) (subst (λ v. p v ≡ true) (sym q) h)
-  some_from (y ∷ ys) x (inr i) h = or_right (p y) (some p ys) (some_from ys x i h)
+  some_from (y ∷ ys) x (inl q) h = or_left (p y) (list_any p ys) (subst (λ v. p v ≡ true) (sym q) h)
+  some_from (y ∷ ys) x (inr i) h = or_right (p y) (list_any p ys) (some_from ys x i h)
 
 -- a test that passes more often
 module _ {X : Type 0} (p q : X → Bool) (h : (x : X) → p x ≡ true → q x ≡ true) (xs : List X) where
-  pub every_more : every p xs ≡ true → every q xs ≡ true
+  pub every_more : list_all p xs ≡ true → list_all q xs ≡ true
   every_more e = every_from q xs (λ x i. h x (every_at p xs x e i))
 
-  pub some_more : some p xs ≡ true → some q xs ≡ true
+  pub some_more : list_any p xs ≡ true → list_any q xs ≡ true
   some_more e = let r = some_at p xs e in some_from q xs r.0 r.1 (h r.0 r.2)
 
 pub has_in : (xs : List ℕ) (a : ℕ) → In a xs → has xs a ≡ true

@@ -1,13 +1,13 @@
 -- Grounded marks, and the parts of an answer that keep every rule.
 use Rattle.std.proofs.Common.{◌≡◌, ℕ, ◌≤◌, Bool, true, false, not, ◌||◌, eqb, List, [], ◌∷◌, length, ap, inl, inr}
 use Rattle.std.proofs.lemmas.Bool.{false≢true, both_ways, not-false, not_from_false, cond_both, cases_Bool, or_left, or_right, eqb-true}
+use Rattle.std.specs.List.{list_any}
 use Rattle.book.specs.Rules.{Rule, Rules, Lawful, LawfulRule, Atom, head_limit, rule_at}
 use Rattle.book.specs.declared.kind.Kind.{Kind}
 use Rattle.book.specs.declared.kind.Kind.TheVariants.{Plain, Choice}
 use Rattle.sheet.specs.declared.proposal.Reason.{Reason}
 use Rattle.sheet.specs.declared.proposal.Reason.TheVariants.{Support, Lack, Required}
 use Rattle.sheet.specs.declared.proposal.Proposal.{Proposal}
-use Rattle.sheet.specs.Lists.{some}
 use Rattle.sheet.specs.Marks.{Atoms, Marks, is_unmarked, says, claim, mark_for, marked, marked_all}
 use Rattle.sheet.specs.Bodies.{body_true}
 use Rattle.sheet.specs.AnswerSets.{head_broken, broken, head_kept, keeps, Unbroken, KeepsAll, AnswerSet}
@@ -55,7 +55,7 @@ module _ (R : Rules) (lawful : Lawful R) (A : Atoms) (m : Marks) (agree : Agrees
   trues a = says true (m a)
 
   head_keeps : (k : Kind) (hs : List ℕ) → ((a : ℕ) → In a hs → A a ≡ true → trues a ≡ true) → head_broken A k hs ≡ false → head_kept trues A k hs ≡ true
-  head_keeps Plain hs h e = let r = some_at A hs (not-false (some A hs) e) in some_from trues hs r.0 r.1 (h r.0 r.1 r.2)
+  head_keeps Plain hs h e = let r = some_at A hs (not-false (list_any A hs) e) in some_from trues hs r.0 r.1 (h r.0 r.1 r.2)
   head_keeps Choice hs h e =
       every_from (λ a. not (A a) || trues a) hs
       (λ a i. elim (cases_Bool (A a)) [

@@ -1,7 +1,7 @@
 -- The turns of the loop that tests the later entries again.
 use Rattle.std.proofs.Common.{◌≡◌, ℕ, ◌+◌, ◌<◌, ◌≤◌, Bool, true, false, List, [], ◌∷◌, ◌++◌, length, get_or, take, drop, set, is_ok, Ok, Err, sym, refl, ap, ◌∙◌, subst, arith}
 use mathlib.Core.Path.{fun_ext}
-use Rattle.std.proofs.lemmas.List.{take_more_set, drop-set-lt, at_drop_more, at_drop_all}
+use Rattle.std.proofs.lemmas.List.{take_more_set, drop-set-lt, at_drop_more}
 use Rattle.std.proofs.lemmas.Bool.{false≢true, true≢false}
 use Rattle.book.specs.Rules.{Rules}
 use Rattle.sheet.specs.declared.mark.Mark.{Mark}
@@ -65,13 +65,10 @@ module _ (R : Rules) (answer assumed : List Bool) (end : State) where
         let more : take (to + 1) (set es to P) ≡ take to es ++ (P ∷ []) = take_more_set es to P (omega (arith, inv.before)) in
         let left : drop (at + 1) (set es to P) ≡ drop (at + 1) es = drop-set-lt (at + 1) es to P (omega (arith, inv.before)) in
         let into : (enter_call R s P).1 ≡ S (take to es ++ (P ∷ [])) = enter_in s P (verdict R (flagged answer) (marks s) P) (sym (e ∙ ap is_ok same_verdict)) in
-        let f = placed R (flagged answer) ms P few size (ok_is _ (sym e)) in
+        let f = placed R (flagged answer) (marking ms) ms P few size (λ _. refl) (ok_is _ (sym e)) in
         record {
           before = omega (arith, inv.before);
           tied = λ a. ap (λ ns. marking ns a) m ∙ push_tied ms P f.within (assuming (flagged assumed)) (take to es) (take (to + 1) (set es to P)) inv.tied more a;
           rest = ap (λ fs. enter_all R (S fs) (drop (at + 1) (set es to P))) more ∙ ap (enter_all R (S (take to es ++ (P ∷ [])))) left ∙ ap (λ t. enter_all R t (drop (at + 1) es)) (sym into) ∙ sym turn ∙ inv.rest;
           room = omega (arith, inv.room, f.less, ap unmarked_in m);
         }
-
-  pub turn_end : (to at : ℕ) (ms : List Mark) (es : List Proposal) → length es ≤ at → Inv to at ms es → S (take to es) ≡ end
-  turn_end to at ms es h inv = sym (at_drop_all (enter_all R (S (take to es))) es at h) ∙ inv.rest

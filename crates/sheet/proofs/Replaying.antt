@@ -22,9 +22,6 @@ pub record Made (R : Rules) (calls : List Given) (i : ℕ) (answers : List Answe
   pub answered : answers ≡ (run R new (calls_of (take i calls))).0
   pub left : v ≡ viewed R (run R new (calls_of (take i calls))).1
 
-pub none_made : (R : Rules) (calls : List Given) (answers : List Answer) (v : View) → answers ≡ [] → v ≡ viewed R new → Made R calls 0 answers v
-none_made R calls answers v a e = record { answered = a; left = e }
-
 pub one_made : (R : Rules) (calls : List Given) (i : ℕ) (d : Given) (answers more : List Answer) (v w : View) (r : Answer) → i < length calls → Made R calls i answers v → (r, w) ≡ leaving (λ Q s. call Q s (call_of (get_or calls i d))) v → more ≡ answers ++ (r ∷ []) → Made R calls (i + 1) more w
 one_made R calls i d answers more v w r l m e push =
     let c = call_of (get_or calls i d) in

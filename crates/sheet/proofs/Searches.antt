@@ -1,8 +1,9 @@
 -- What a search for the first number, or the first place of a list, has found.
 use Rattle.std.proofs.Common.{◌≡◌, ℕ, zero, suc, ◌<◌, Bool, true, false, cond, ◌⊎◌, List, [], ◌∷◌, length, Some, None, Option, sym, refl, ap, ◌∙◌, subst, inl, inr, arith}
-use Rattle.std.specs.List.{AllByRecursion as Each, slice_get}
+use Rattle.std.specs.List.{AllByRecursion as Each, slice_get, HoldsAt, AllWithin}
+use Rattle.std.specs.Option.{MatchOption}
 use Rattle.base.specs.Search.{least, or_else}
-use Rattle.base.proofs.Search.{none_passes, none_found}
+use Rattle.base.proofs.Search.{none_passes, none_found, least_found}
 use Rattle.sheet.specs.Lists.{passes}
 use Rattle.sheet.proofs.Members.{all_from, in_nth}
 
@@ -27,10 +28,6 @@ least_first p (suc n) i e j l = elim (some_parts n i (least p n) (p n) e) [
   | inr h ↦ none_passes p n j (omega (arith, h.2)) h.0
 ]
 
-pub passes_at : {X : Type 0} (p : X → Bool) (o : Option X) → passes p o ≡ true → (x : X) × (o ≡ Some x) × (p x ≡ true)
-passes_at p None e = let z : ◌≡◌ {A = ℕ} 0 1 = cc in absurd (omega arith)
-passes_at p (Some x) e = (x, refl, e)
-
 -- no place is found exactly where no element passes
 module _ {X : Type 0} (p : X → Bool) where
   pub none_at : (xs : List X) → least (λ i. passes p (slice_get xs i)) (length xs) ≡ None → Each (λ x. p x ≡ false) xs
@@ -45,3 +42,18 @@ module _ {X : Type 0} (p : X → Bool) where
 
   pub at_none : (xs : List X) → Each (λ x. p x ≡ false) xs → least (λ i. passes p (slice_get xs i)) (length xs) ≡ None
   at_none xs h = none_found (λ i. passes p (slice_get xs i)) (length xs) (λ i _. fails_at xs i h)
+
+-- what `position` finds is the first place whose element passes
+module _ {X : Type 0} (p : X → Bool) where
+  read_at : (b : Bool) (xs : List X) (i : ℕ) → i < length xs → HoldsAt (λ x. p x ≡ b) xs i → passes p (slice_get xs i) ≡ b
+  read_at b [] i l h = absurd (omega arith)
+  read_at b (x ∷ xs) zero l h = h x
+  read_at b (x ∷ xs) (suc i) l h = read_at b xs i (omega arith) h
+
+  pub least_from_position : (xs : List X) (r : Option ℕ)
+      → MatchOption r (AllWithin (λ x. p x ≡ false) xs 0 (length xs)) (λ i. (i < length xs) × HoldsAt (λ x. p x ≡ true) xs i × AllWithin (λ x. p x ≡ false) xs 0 i)
+      → r ≡ least (λ i. passes p (slice_get xs i)) (length xs)
+  least_from_position xs None h = sym (none_found _ (length xs) (λ i l. read_at false xs i l (λ d. h i d (omega arith) l)))
+  least_from_position xs (Some i) h =
+      least_found _ i (length xs) h.0 (sym (read_at true xs i h.0 h.1))
+      (none_found _ i (λ k l. read_at false xs k (omega (arith, h.0)) (λ d. h.2 k d (omega arith) l)))

@@ -11,7 +11,7 @@ use Rattle.sheet.specs.declared.mark.Mark.TheVariants.{Unmarked}
 use Rattle.sheet.specs.declared.proposal.Proposal.{Proposal}
 use Rattle.sheet.specs.Lists.{how_many}
 use Rattle.sheet.specs.Marks.{Atoms, Marks, is_unmarked, claim, mark_for, marked, marked_all, assuming}
-use Rattle.sheet.specs.States.{State, new}
+use Rattle.sheet.specs.States.{State}
 use Rattle.sheet.specs.Strike.{is_of}
 use Rattle.sheet.specs.Law.{has_entry}
 use Rattle.sheet.specs.Kept.{flagged, marking, unmarked_in, with_marks, mark_assumed}
@@ -33,12 +33,6 @@ no_mark (suc n) (suc a) = no_mark n a
 
 abbrev pub state_from : Bool → Atoms → Atoms → List Proposal → State
 state_from opened A X es = record { opened = opened; answer = A; assumed = X; entries = es }
-
-pub new_state : (n : ℕ) (bs ds : List Bool) (es : List Proposal) → bs ≡ replicate n false → ds ≡ replicate n false → es ≡ [] → state_from false (flagged bs) (flagged ds) es ≡ new
-new_state n bs ds es b d e =
-    ap (λ A. state_from false A (flagged ds) es) (fun_ext (λ a. ap (λ x. flagged x a) b ∙ no_flag n a))
-    ∙ ap (λ X. state_from false (λ _. false) X es) (fun_ext (λ a. ap (λ x. flagged x a) d ∙ no_flag n a))
-    ∙ ap (state_from false (λ _. false) (λ _. false)) e
 
 pub unmarked_most : (ms : List Mark) → unmarked_in ms ≤ 1024
 unfolding unmarked_in

@@ -1,21 +1,19 @@
 -- The turns of completing.
-use Rattle.std.proofs.Common.{◌≡◌, ℕ, suc, ◌+◌, ◌-◌, ◌<◌, Bool, cond, length, sym, ap, ◌∙◌, add-one, arith}
+use Rattle.std.proofs.Common.{◌≡◌, ℕ, suc, ◌+◌, ◌-◌, ◌<◌, ◌≤◌, cond, length, sym, ap, ◌∙◌, arith}
 use Rattle.std.proofs.lemmas.Bool.{cond-true, cond-false, eq-eqb, ne_eqb}
-use Rattle.std.proofs.lemmas.Bool.Decides.{nat_tests}
 use Rattle.book.specs.Rules.{Rules}
 use Rattle.sheet.specs.Complete.{first_reason, enter_first, sweep, round, is_idle, rounds}
-use Rattle.sheet.specs.Lists.{how_many}
 use Rattle.sheet.specs.States.{State}
 use Rattle.sheet.specs.View.{View, changing}
-
-pub count_more : (f : ℕ → Bool) (n : ℕ) → how_many f n + cond (f (n + 1)) 1 0 ≡ how_many f (n + 1)
-count_more f n = rw (add-one n) (grind (arith, nat_tests))
 
 abbrev at : ℕ → Rules → State → State
 at p R s = enter_first R s p (first_reason R s p)
 
-pub sweep_more : (v w x : View) (i : ℕ) → x ≡ changing (at (i + 1)) w → w ≡ changing (λ R s. sweep R s i) v → x ≡ changing (λ R s. sweep R s (i + 1)) v
-sweep_more v w x i e inv = e ∙ ap (λ n. changing (at n) w) (add-one i) ∙ ap (changing (at (suc i))) inv ∙ ap (λ n. changing (λ R s. sweep R s n) v) (sym (add-one i))
+-- the turn of an atom, after those below it
+pub sweep_more : (v w x : View) (a : ℕ) → 1 ≤ a → x ≡ changing (at a) w → w ≡ changing (λ R s. sweep R s (a - 1)) v → x ≡ changing (λ R s. sweep R s a) v
+sweep_more v w x a low e inv =
+    let next : suc (a - 1) ≡ a = omega arith in
+    e ∙ ap (changing (at a)) inv ∙ ap (λ n. changing (λ R s. at n R (sweep R s (a - 1))) v) (sym next) ∙ ap (λ n. changing (λ R s. sweep R s n) v) next
 
 module _ (most i : ℕ) (w end : View) (inv : changing (λ R s. rounds R (most - i) s) w ≡ end) (l : i < most) where
   abbrev next : State

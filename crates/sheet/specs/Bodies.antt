@@ -1,8 +1,9 @@
 -- What the marks, and what an answer, make of a rule's body.
 use Rattle.std.specs.Prelude.{ℕ, suc, Bool, true, false, not, ◌||◌, List, [], length, ℤ, pos, negsuc, Some, None, Option, ◌==◌}
-use Rattle.base.specs.Search.{every, least}
+use Rattle.std.specs.List.{list_all, list_any}
+use Rattle.base.specs.Search.{least}
 use Rattle.book.specs.Rules.{Rule, body_literal}
-use Rattle.sheet.specs.Lists.{some, passes}
+use Rattle.sheet.specs.Lists.{passes}
 use Rattle.sheet.specs.Marks.{Atoms, Marks, says}
 
 -- `pos a` is the literal a, and `negsuc a` the literal -(a + 1)
@@ -28,21 +29,21 @@ literal_fails m (negsuc a) = says true (m (suc a))
 
 -- a body holds if all its literals do, and fails if one does
 abbrev pub body_holds : Marks → Rule → Bool
-body_holds m ρ = every (literal_holds m) ρ.body
+body_holds m ρ = list_all (literal_holds m) ρ.body
 
 abbrev pub body_fails : Marks → Rule → Bool
-body_fails m ρ = some (literal_fails m) ρ.body
+body_fails m ρ = list_any (literal_fails m) ρ.body
 
 -- the literal is p itself, or it holds
 abbrev pub holds_but : ℕ → Marks → ℤ → Bool
 holds_but p m z = is_positive p z || literal_holds m z
 
 abbrev pub body_holds_but : ℕ → Marks → Rule → Bool
-body_holds_but p m ρ = every (holds_but p m) ρ.body
+body_holds_but p m ρ = list_all (holds_but p m) ρ.body
 
 -- the atom stands positive in the body
 abbrev pub in_body : ℕ → Rule → Bool
-in_body p ρ = some (is_positive p) ρ.body
+in_body p ρ = list_any (is_positive p) ρ.body
 
 -- the body of a rule that may not be there
 abbrev pub body_of : Option Rule → List ℤ
@@ -69,7 +70,7 @@ literal_true M A (pos a) = M a
 literal_true M A (negsuc a) = not (A (suc a))
 
 abbrev pub body_true : Atoms → Atoms → Rule → Bool
-body_true M A ρ = every (literal_true M A) ρ.body
+body_true M A ρ = list_all (literal_true M A) ρ.body
 
 -- true under the answer A: all its positive atoms are in A, and none of its negative ones is
 abbrev pub true_under : Atoms → Rule → Bool

@@ -1,14 +1,11 @@
 -- Sets and marks as a sheet keeps them: in lists, an atom's item at the place of its number.
-use Rattle.std.specs.Prelude.{ℕ, suc, Bool, true, false, cond, not, List, [], ◌∷◌, ℤ, pos, negsuc, slice_index_or, slice_set}
+use Rattle.std.specs.Prelude.{ℕ, suc, Bool, true, false, cond, List, [], ◌∷◌, ℤ, pos, negsuc, slice_index_or, slice_set}
 use Rattle.sheet.specs.declared.mark.Mark.{Mark}
 use Rattle.sheet.specs.declared.mark.Mark.TheVariants.{Unmarked, False}
 use Rattle.sheet.specs.declared.proposal.Proposal.{Proposal}
-use Rattle.sheet.specs.declared.literal.Test.{Test}
-use Rattle.sheet.specs.declared.literal.Test.TheVariants.{Holds, HoldsBut, FailsNot, IsNot, TrueUnder}
 use Rattle.sheet.specs.Lists.{how_many}
 use Rattle.sheet.specs.Marks.{Atoms, Marks, is_unmarked, claim, mark_for}
 use Rattle.sheet.specs.States.{State}
-use Rattle.sheet.specs.Bodies.{is_positive, literal_holds, literal_fails, holds_but, literal_true}
 
 abbrev pub flagged : List Bool → Atoms
 flagged flags a = slice_index_or flags a false
@@ -19,14 +16,6 @@ marking ms a = slice_index_or ms a Unmarked
 -- how many atoms of all that a book can have are unmarked
 unfoldable pub unmarked_in : List Mark → ℕ
 unmarked_in ms = how_many (λ a. is_unmarked (marking ms a)) 1024
-
--- what a test asks of a literal, under an answer and marks
-abbrev pub meets : Test → Atoms → Marks → ℤ → Bool
-meets Holds A m = literal_holds m
-meets (HoldsBut p) A m = holds_but p m
-meets FailsNot A m = λ z. not (literal_fails m z)
-meets (IsNot p) A m = λ z. not (is_positive p z)
-meets TrueUnder A m = literal_true A A
 
 -- the flags with those of the positive, or of the negative, literals set
 abbrev pub with_positives : List Bool → List ℤ → List Bool

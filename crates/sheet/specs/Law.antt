@@ -1,11 +1,10 @@
 -- The law over every list of calls on one sheet.
 use Rattle.std.specs.Prelude.{◌≡◌, ℕ, Bool, true, false, not, ◌||◌, ◌⊎◌, List, map, Ok, Err}
-use Rattle.std.specs.List.{AllByRecursion as Each}
+use Rattle.std.specs.List.{AllByRecursion as Each, list_any}
 use Rattle.book.specs.Rules.{Rules, Lawful, Atom}
 use Rattle.sheet.specs.declared.done.Done.TheVariants.{Entered}
 use Rattle.sheet.specs.declared.error.SheetError.TheVariants.{AlreadyMarked}
 use Rattle.sheet.specs.declared.proposal.Proposal.{Proposal}
-use Rattle.sheet.specs.Lists.{some}
 use Rattle.sheet.specs.Marks.{is_unmarked}
 use Rattle.sheet.specs.AnswerSets.{AnswerSet}
 use Rattle.sheet.specs.Allowed.{Allowed, Grounded}
@@ -17,7 +16,7 @@ use Rattle.sheet.specs.View.{View}
 use Rattle.sheet.specs.Runs.{Call, Enter, Answer, run}
 
 abbrev pub has_entry : List Proposal → ℕ → Bool
-has_entry es a = some (is_of a) es
+has_entry es a = list_any (is_of a) es
 
 -- entered, or refused since the atom is marked already
 abbrev pub EnteredOrMarked : Answer → Type 0

@@ -1,13 +1,9 @@
 -- Tests of lists and of numbers.
-use Rattle.std.specs.Prelude.{ℕ, zero, suc, Bool, false, cond, ◌||◌, List, [], ◌∷◌, Some, None, Option, nat_eq}
-
--- one element passes the test
-abbrev pub some : {X : Type 0} → (X → Bool) → List X → Bool
-some p [] = false
-some p (x ∷ xs) = p x || some p xs
+use Rattle.std.specs.Prelude.{ℕ, zero, suc, Bool, false, cond, List, Some, None, Option, nat_eq}
+use Rattle.std.specs.List.{list_any}
 
 abbrev pub has : List ℕ → ℕ → Bool
-has xs a = some (nat_eq a) xs
+has xs a = list_any (nat_eq a) xs
 
 -- what a look-up found passes the test
 abbrev pub passes : {X : Type 0} → (X → Bool) → Option X → Bool

@@ -1,11 +1,11 @@
 -- Opening a sheet: a list of literals fixes the answer and the assumed atoms.
 use Rattle.std.specs.Prelude.{ℕ, Bool, true, cond, not, ◌||◌, List, [], length, take, ℤ, Some, None, Ok, Option, nat_eq, unsigned_abs}
-use Rattle.std.specs.List.{slice_get}
+use Rattle.std.specs.List.{slice_get, list_any}
 use Rattle.base.specs.Search.{least}
 use Rattle.book.specs.Rules.{Rules, rule_at}
 use Rattle.sheet.specs.declared.error.SheetError.{SheetError}
 use Rattle.sheet.specs.declared.error.SheetError.TheVariants.{UnknownAtom, WrongState, DuplicateAtom, ViolatedRule}
-use Rattle.sheet.specs.Lists.{some, passes}
+use Rattle.sheet.specs.Lists.{passes}
 use Rattle.sheet.specs.Marks.{Atoms, is_atom}
 use Rattle.sheet.specs.Bodies.{is_positive, is_negative}
 use Rattle.sheet.specs.AnswerSets.{broken}
@@ -13,14 +13,14 @@ use Rattle.sheet.specs.States.{State, After, refused}
 
 -- the answer is the positive literals, and the atoms of the negative ones are assumed
 abbrev pub positives : List ℤ → Atoms
-positives zs a = some (is_positive a) zs
+positives zs a = list_any (is_positive a) zs
 
 abbrev pub negatives : List ℤ → Atoms
-negatives zs a = some (is_negative a) zs
+negatives zs a = list_any (is_negative a) zs
 
 -- the atoms of the list, with either sign
 abbrev pub named : List ℤ → Atoms
-named zs a = some (λ z. nat_eq a (unsigned_abs z)) zs
+named zs a = list_any (λ z. nat_eq a (unsigned_abs z)) zs
 
 -- the literal at a position is of no atom of the book
 abbrev pub unknown_at : Rules → List ℤ → ℕ → Bool

@@ -1,7 +1,8 @@
 // Completing a sheet.
-ghost use Rattle.std.specs.Prelude.{◌≡◌, ◌≤◌, if◌then◌else◌};
-ghost use Rattle.sheet.specs.declared.proposal.Reason.TheVariants.{Support as BySupport, Required as ByRequired};
+ghost use Rattle.std.specs.Prelude.{◌≡◌, ℕ};
+ghost use Rattle.sheet.specs.declared.proposal.Reason.{Reason};
 ghost use Rattle.sheet.specs.Complete.{admits as admitting, lowest, first_reason, enter_first, round as rounding, rounds as rounds_of, complete_call};
+ghost use Rattle.sheet.specs.Closures.{Computes};
 ghost use Rattle.sheet.specs.Kept.{marking};
 ghost use Rattle.sheet.specs.Lists.{how_many};
 ghost use Rattle.sheet.specs.Marks.{is_unmarked};
@@ -9,11 +10,10 @@ ghost use Rattle.sheet.specs.View.{view, changing, leaving};
 ghost use Rattle.sheet.specs.Law.{StaysReliable, NeverMisleads};
 
 use crate::error::SheetError;
-use crate::judge::judge;
 use crate::mark::Mark;
 use crate::proposal::{Proposal, Reason};
 use crate::sheet::Sheet;
-use crate::tests::{is_unmarked, mark_at};
+use crate::tests::is_unmarked;
 use book::book::Book;
 
 impl<'b, B: Book> Sheet<'b, B> {
@@ -41,48 +41,30 @@ impl<'b, B: Book> Sheet<'b, B> {
     fn admits(&self, atom: u32, reason: Reason) -> bool
         ensures { result ≡ admitting (view B.meaning self.now).rules (view B.meaning self.now).state atom reason }
     {
-        judge(
-            self.book,
-            &self.answer,
-            &self.marks,
-            Proposal { atom, reason },
-        )
-        .is_ok()
+        self.judge().allows(Proposal { atom, reason })
     }
 
-    fn lowest_support(&self, atom: u32) -> Option<Reason>
-        ensures { result ≡ lowest (view B.meaning self.now).rules (view B.meaning self.now).state atom BySupport }
+    // The reason of a kind by the lowest rule, if one by any rule is admitted.
+    fn lowest<F: Fn(u32) -> Reason>(&self, atom: u32, by: F) -> Option<Reason>
+        requires { F.IsAlwaysCallable by }
+        ensures { (kind : ℕ → Reason) → Computes (F.post by) kind → result ≡ lowest (view B.meaning self.now).rules (view B.meaning self.now).state atom kind }
     {
-        for rule in 0..self.book.rules() {
-            if self.admits(atom, Reason::Support(rule)) {
-                return Some(Reason::Support(rule));
-            }
-        }
-        None
-    }
-
-    fn lowest_required(&self, atom: u32) -> Option<Reason>
-        ensures { result ≡ lowest (view B.meaning self.now).rules (view B.meaning self.now).state atom ByRequired }
-    {
-        for rule in 0..self.book.rules() {
-            if self.admits(atom, Reason::Required(rule)) {
-                return Some(Reason::Required(rule));
-            }
-        }
-        None
+        (0..self.book.rules())
+            .find(|rule| self.admits(atom, by(*rule)))
+            .map(by)
     }
 
     // Support by the lowest rule, else lack of support, else required by the lowest rule.
     fn first_reason(&self, atom: u32) -> Option<Reason>
         ensures { result ≡ first_reason (view B.meaning self.now).rules (view B.meaning self.now).state atom }
     {
-        if let Some(reason) = self.lowest_support(atom) {
+        if let Some(reason) = self.lowest(atom, Reason::Support) {
             return Some(reason);
         }
         if self.admits(atom, Reason::Lack) {
             return Some(Reason::Lack);
         }
-        self.lowest_required(atom)
+        self.lowest(atom, Reason::Required)
     }
 
     // Enters the first reason for the atom, if there is one.
@@ -97,8 +79,8 @@ impl<'b, B: Book> Sheet<'b, B> {
     fn round(&mut self)
         ensures { view B.meaning self.new ≡ changing rounding (view B.meaning self.old) }
     {
-        for i in 0..self.book.atoms() {
-            self.step(i + 1);
+        for atom in 1..=self.book.atoms() {
+            self.step(atom);
         }
     }
 
@@ -116,24 +98,9 @@ impl<'b, B: Book> Sheet<'b, B> {
     }
 }
 
-fn one_if_unmarked(marks: &[Mark], atom: u32) -> u32
-    ensures is { result ≡ (if is_unmarked (marking marks.now atom) then 1 else 0) }
-    ensures small { result ≤ 1 }
-{
-    if is_unmarked(mark_at(marks, atom)) {
-        1
-    } else {
-        0
-    }
-}
-
 // How many of the atoms from 1 on are unmarked.
 fn count_unmarked(marks: &[Mark], atoms: u32) -> u32
     ensures { result ≡ how_many (λ a. is_unmarked (marking marks.now a)) atoms }
 {
-    let mut count = 0;
-    for i in 0..atoms {
-        count += one_if_unmarked(marks, i + 1);
-    }
-    count
+    (1..=atoms).filter(|atom| is_unmarked(marks, *atom)).count() as u32
 }

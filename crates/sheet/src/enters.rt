@@ -5,7 +5,6 @@ ghost use Rattle.sheet.specs.Law.{StaysReliable};
 ghost use Rattle.sheet.specs.View.{view, leaving};
 
 use crate::error::SheetError;
-use crate::judge::judge;
 use crate::proposal::Proposal;
 use crate::sheet::Sheet;
 use crate::sheets::put_mark;
@@ -27,7 +26,7 @@ impl<'b, B: Book> Sheet<'b, B> {
         if !self.opened {
             return Err(SheetError::WrongState);
         }
-        judge(self.book, &self.answer, &self.marks, proposal)?;
+        self.judge().verdict(proposal)?;
         put_mark(&mut self.marks, proposal);
         self.entries.push_reserved(proposal);
         Ok(())

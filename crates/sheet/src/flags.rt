@@ -1,28 +1,20 @@
 // Sets of atoms as flags, and the marks of assumed atoms.
-ghost use Rattle.std.specs.Prelude.{◌≡◌, true, false, [], ◌∷◌, map, length, replicate, slice_set};
+ghost use Rattle.std.specs.Prelude.{◌≡◌, [], ◌∷◌, map, length};
 ghost use Rattle.sheet.specs.Kept.{with_positives, with_negatives, mark_assumed};
 
 use crate::mark::Mark;
 use crate::tests::mark_assumed;
-
-fn put_flag(flags: &mut [bool], atom: u32)
-    ensures { flags.new ≡ slice_set flags.old atom true }
-{
-    let at = atom as usize;
-    if at < flags.len() {
-        flags[at] = true;
-    }
-}
+use base::parts::put;
 
 fn put_literal(answer: &mut [bool], assumed: &mut [bool], literal: i32)
     ensures answer { answer.new ≡ with_positives answer.old (literal ∷ []) }
     ensures assumed { assumed.new ≡ with_negatives assumed.old (literal ∷ []) }
 {
-    let atom = literal.unsigned_abs();
+    let atom = literal.unsigned_abs() as usize;
     if literal < 0 {
-        put_flag(assumed, atom);
+        put(assumed, atom, true);
     } else {
-        put_flag(answer, atom);
+        put(answer, atom, true);
     }
 }
 
@@ -36,18 +28,12 @@ pub(crate) fn put_literals(answer: &mut [bool], assumed: &mut [bool], literals: 
     }
 }
 
-pub(crate) fn clear(flags: &mut [bool])
-    ensures { flags.new ≡ replicate (length flags.old) false }
-{
-    flags.fill(false);
-}
-
 // The assumed atoms are marked false, and no others are marked.
 pub(crate) fn put_assumed(marks: &mut [Mark], assumed: &[bool])
     requires { length marks.old ≡ length assumed.now }
     ensures { marks.new ≡ map mark_assumed assumed.now }
 {
-    for i in 0..assumed.len() {
-        marks[i] = mark_assumed(assumed[i]);
+    for (atom, mark) in marks.iter_mut().enumerate() {
+        *mark = mark_assumed(assumed[atom]);
     }
 }

@@ -1,124 +1,94 @@
 // Whether a proposal is allowed, and if not why.
-ghost use Rattle.std.specs.Prelude.{◌≡◌};
-ghost use Rattle.book.specs.Rules.{rule_at};
+ghost use Rattle.std.specs.Prelude.{◌≡◌, is_ok};
 ghost use Rattle.sheet.specs.declared.error.SheetError.TheVariants.{MissingGround as Missing};
 ghost use Rattle.sheet.specs.declared.proposal.Reason.TheVariants.{Support as BySupport, Lack as ByLack, Required as ByRequired};
-ghost use Rattle.sheet.specs.Verdicts.{first_unfailing, unless_at, reason_verdict, verdict};
-ghost use Rattle.sheet.specs.Kept.{flagged, marking};
+ghost use Rattle.sheet.specs.Judges.{reason_judged, judged};
+ghost use Rattle.sheet.specs.Verdicts.{unless_at};
 
 use crate::error::SheetError;
-use crate::literal::Test;
-use crate::looks::{can_require, first_unmet, is_in_head, is_unfailing};
 use crate::mark::Mark;
 use crate::proposal::{Proposal, Reason};
-use crate::tests::{is_atom, is_in, is_unmarked, mark_at};
+use crate::tests::{is_atom, is_positive, is_unmarked};
 use book::book::Book;
+
+// What a proposal is judged by: the book, the answer, and what is marked so far.
+#[derive(Drop)]
+pub(crate) struct Judge<'a, B: Book> {
+    pub(crate) book: &'a B,
+    pub(crate) answer: &'a [bool],
+    pub(crate) marks: &'a [Mark],
+}
 
 // A refusal where a position of the rule's body lacks a ground.
 fn unless_missing(rule: u32, missing: Option<u32>) -> Result<(), SheetError>
     ensures { result ≡ unless_at missing (Missing rule) }
 {
-    match missing {
-        Some(at) => Err(SheetError::MissingGround(rule, at)),
-        None => Ok(()),
-    }
+    missing.map_or(Ok(()), |at| Err(SheetError::MissingGround(rule, at)))
 }
 
-fn judge_support<B: Book>(
-    book: &B,
-    answer: &[bool],
-    marks: &[Mark],
-    atom: u32,
-    rule: u32,
-) -> Result<(), SheetError>
-    ensures { result ≡ reason_verdict (B.meaning book.now) (flagged answer.now) (marking marks.now) atom (BySupport rule) }
-{
-    if !is_in(answer, atom) {
-        return Err(SheetError::WrongSide);
+impl<'a, B: Book> Judge<'a, B> {
+    #[tactic(auto, unfolding(crate::specs::Judges::some_head))]
+    fn support_verdict(&self, atom: u32, rule: u32) -> Result<(), SheetError>
+        ensures { result ≡ reason_judged B.meaning self.now atom (BySupport rule) }
+    {
+        if !self.is_in_answer(atom) {
+            return Err(SheetError::WrongSide);
+        }
+        if !self.is_in_head(rule, atom) {
+            return Err(SheetError::UnsuitableRule(rule));
+        }
+        unless_missing(rule, self.first_unmet(rule, |literal| self.holds(literal)))
     }
-    if !is_in_head(book, rule, atom) {
-        return Err(SheetError::UnsuitableRule(rule));
-    }
-    unless_missing(rule, first_unmet(book, answer, marks, Test::Holds, rule))
-}
 
-// The first rule with the atom in its head that has no failing literal.
-fn first_unfailing<B: Book>(book: &B, answer: &[bool], marks: &[Mark], atom: u32) -> Option<u32>
-    ensures { result ≡ first_unfailing (B.meaning book.now) (marking marks.now) atom }
-{
-    for rule in 0..book.rules() {
-        if is_unfailing(book, answer, marks, rule, atom) {
-            return Some(rule);
+    fn lack_verdict(&self, atom: u32) -> Result<(), SheetError>
+        ensures { result ≡ reason_judged B.meaning self.now atom ByLack }
+    {
+        if self.is_in_answer(atom) {
+            return Err(SheetError::WrongSide);
+        }
+        let unfailing = self.first_unfailing(atom);
+        unfailing.map_or(Ok(()), |rule| Err(SheetError::MissingGround(rule, 0)))
+    }
+
+    fn required_verdict(&self, atom: u32, rule: u32) -> Result<(), SheetError>
+        ensures { result ≡ reason_judged B.meaning self.now atom (ByRequired rule) }
+    {
+        if self.is_in_answer(atom) {
+            return Err(SheetError::WrongSide);
+        }
+        if !self.can_require(rule, atom) {
+            return Err(SheetError::UnsuitableRule(rule));
+        }
+        let test = |literal| is_positive(atom, literal) || self.holds(literal);
+        unless_missing(rule, self.first_unmet(rule, test))
+    }
+
+    fn reason_verdict(&self, atom: u32, reason: Reason) -> Result<(), SheetError>
+        ensures { result ≡ reason_judged B.meaning self.now atom reason }
+    {
+        match reason {
+            Reason::Support(rule) => self.support_verdict(atom, rule),
+            Reason::Lack => self.lack_verdict(atom),
+            Reason::Required(rule) => self.required_verdict(atom, rule),
         }
     }
-    None
-}
 
-fn judge_lack<B: Book>(
-    book: &B,
-    answer: &[bool],
-    marks: &[Mark],
-    atom: u32,
-) -> Result<(), SheetError>
-    ensures { result ≡ reason_verdict (B.meaning book.now) (flagged answer.now) (marking marks.now) atom ByLack }
-{
-    if is_in(answer, atom) {
-        return Err(SheetError::WrongSide);
+    #[tactic(auto, unfolding(crate::specs::Verdicts::verdict))]
+    pub(crate) fn verdict(&self, proposal: Proposal) -> Result<(), SheetError>
+        ensures { result ≡ judged B.meaning self.now proposal }
+    {
+        if !is_atom(self.book.atoms(), proposal.atom) {
+            return Err(SheetError::UnknownAtom(0));
+        }
+        if !is_unmarked(self.marks, proposal.atom) {
+            return Err(SheetError::AlreadyMarked);
+        }
+        self.reason_verdict(proposal.atom, proposal.reason)
     }
-    match first_unfailing(book, answer, marks, atom) {
-        Some(rule) => Err(SheetError::MissingGround(rule, 0)),
-        None => Ok(()),
-    }
-}
 
-fn judge_required<B: Book>(
-    book: &B,
-    answer: &[bool],
-    marks: &[Mark],
-    atom: u32,
-    rule: u32,
-) -> Result<(), SheetError>
-    ensures { result ≡ reason_verdict (B.meaning book.now) (flagged answer.now) (marking marks.now) atom (ByRequired rule) }
-{
-    if is_in(answer, atom) {
-        return Err(SheetError::WrongSide);
+    pub(crate) fn allows(&self, proposal: Proposal) -> bool
+        ensures { result ≡ is_ok (judged B.meaning self.now proposal) }
+    {
+        self.verdict(proposal).is_ok()
     }
-    if !can_require(book, answer, marks, rule, atom) {
-        return Err(SheetError::UnsuitableRule(rule));
-    }
-    let test = Test::HoldsBut(atom);
-    unless_missing(rule, first_unmet(book, answer, marks, test, rule))
-}
-
-fn judge_reason<B: Book>(
-    book: &B,
-    answer: &[bool],
-    marks: &[Mark],
-    atom: u32,
-    reason: Reason,
-) -> Result<(), SheetError>
-    ensures { result ≡ reason_verdict (B.meaning book.now) (flagged answer.now) (marking marks.now) atom reason }
-{
-    match reason {
-        Reason::Support(rule) => judge_support(book, answer, marks, atom, rule),
-        Reason::Lack => judge_lack(book, answer, marks, atom),
-        Reason::Required(rule) => judge_required(book, answer, marks, atom, rule),
-    }
-}
-
-pub(crate) fn judge<B: Book>(
-    book: &B,
-    answer: &[bool],
-    marks: &[Mark],
-    proposal: Proposal,
-) -> Result<(), SheetError>
-    ensures { result ≡ verdict (B.meaning book.now) (flagged answer.now) (marking marks.now) proposal }
-{
-    if !is_atom(book.atoms(), proposal.atom) {
-        return Err(SheetError::UnknownAtom(0));
-    }
-    if !is_unmarked(mark_at(marks, proposal.atom)) {
-        return Err(SheetError::AlreadyMarked);
-    }
-    judge_reason(book, answer, marks, proposal.atom, proposal.reason)
 }

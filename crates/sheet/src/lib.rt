@@ -10,7 +10,6 @@ mod faults;
 mod flags;
 mod judge;
 mod lists;
-mod literal;
 mod looks;
 pub mod mark;
 mod opens;

@@ -1,48 +1,33 @@
 // The list of literals that a sheet is opened with.
-ghost use Rattle.std.specs.Prelude.{◌≡◌, ◌==◌, unsigned_abs};
-ghost use Rattle.sheet.specs.Open.{named, unknown_at, repeated_at, faulty_at, first_fault, fault_at, first_broken};
-ghost use Rattle.sheet.specs.Kept.{flagged};
+ghost use Rattle.std.specs.Prelude.{◌≡◌};
+ghost use Rattle.sheet.specs.Open.{named, unknown_at, repeated_at, faulty_at, first_fault, fault_at};
 
 use crate::error::SheetError;
-use crate::looks::is_broken;
-use crate::mark::Mark;
 use crate::tests::is_atom;
 use base::parts::{item, part};
 use book::book::Book;
 
-fn is_of(atom: u32, literal: i32) -> bool
-    ensures { result ≡ (atom == unsigned_abs literal) }
-{
-    atom == literal.unsigned_abs()
-}
-
 fn is_named(literals: &[i32], atom: u32) -> bool
     ensures { result ≡ named literals.now atom }
 {
-    for literal in literals {
-        if is_of(atom, *literal) {
-            return true;
-        }
-    }
-    false
+    literals
+        .iter()
+        .any(|literal| atom == literal.unsigned_abs())
 }
 
 fn is_unknown_at<B: Book>(book: &B, literals: &[i32], at: usize) -> bool
     ensures { result ≡ unknown_at (B.meaning book.now) literals.now at }
 {
-    match item(literals, at) {
-        Some(literal) => !is_atom(book.atoms(), literal.unsigned_abs()),
-        None => false,
-    }
+    item(literals, at).is_some_and(|literal| !is_atom(book.atoms(), literal.unsigned_abs()))
 }
 
 fn is_repeated_at(literals: &[i32], at: usize) -> bool
     ensures { result ≡ repeated_at literals.now at }
 {
-    match item(literals, at) {
-        Some(literal) => is_named(part(literals, 0, at), literal.unsigned_abs()),
-        None => false,
-    }
+    item(literals, at).is_some_and(|literal| is_named(
+        part(literals, 0, at),
+        literal.unsigned_abs(),
+    ))
 }
 
 fn is_faulty_at<B: Book>(book: &B, literals: &[i32], at: usize) -> bool
@@ -55,12 +40,9 @@ fn is_faulty_at<B: Book>(book: &B, literals: &[i32], at: usize) -> bool
 pub(crate) fn first_fault<B: Book>(book: &B, literals: &[i32]) -> Option<u32>
     ensures { result ≡ first_fault (B.meaning book.now) literals.now }
 {
-    for at in 0..literals.len() {
-        if is_faulty_at(book, literals, at) {
-            return Some(at as u32);
-        }
-    }
-    None
+    (0..literals.len())
+        .find(|at| is_faulty_at(book, literals, *at))
+        .map(|at| at as u32)
 }
 
 pub(crate) fn fault_at<B: Book>(book: &B, literals: &[i32], at: u32) -> SheetError
@@ -71,16 +53,4 @@ pub(crate) fn fault_at<B: Book>(book: &B, literals: &[i32], at: u32) -> SheetErr
     } else {
         SheetError::DuplicateAtom(at)
     }
-}
-
-// The first rule that is broken under the answer.
-pub(crate) fn first_broken<B: Book>(book: &B, answer: &[bool], marks: &[Mark]) -> Option<u32>
-    ensures { result ≡ first_broken (B.meaning book.now) (flagged answer.now) }
-{
-    for rule in 0..book.rules() {
-        if is_broken(book, answer, marks, rule) {
-            return Some(rule);
-        }
-    }
-    None
 }

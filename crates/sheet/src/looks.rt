@@ -1,160 +1,163 @@
 // Tests of a rule of any book: of its head, and of its body literal by literal.
-ghost use Rattle.std.specs.Prelude.{◌≡◌, nat_eq};
-ghost use Rattle.book.specs.Rules.{rule_at, head_atom};
-ghost use Rattle.sheet.specs.Lists.{some, passes};
-ghost use Rattle.sheet.specs.Bodies.{body_fails, in_body, unmet_at, first_unmet};
+ghost use Rattle.std.specs.Prelude.{◌≡◌, ℕ, ℤ, Bool, nat_eq};
+ghost use Rattle.sheet.specs.Lists.{passes};
+ghost use Rattle.sheet.specs.Marks.{says};
+ghost use Rattle.sheet.specs.Bodies.{first_unmet, is_positive, literal_holds, literal_fails, literal_true};
 ghost use Rattle.sheet.specs.Allowed.{is_constraint};
-ghost use Rattle.sheet.specs.Open.{broken_at};
-ghost use Rattle.sheet.specs.Verdicts.{fits_support, fits_required, unfailing_at};
-ghost use Rattle.sheet.specs.Kept.{flagged, marking, meets as meeting};
+ghost use Rattle.sheet.specs.Open.{broken_at, first_broken};
+ghost use Rattle.sheet.specs.Verdicts.{fits_required, unfailing_at, first_unfailing};
+ghost use Rattle.sheet.specs.Closures.{Computes, ComputesOnLiterals};
+ghost use Rattle.sheet.specs.Judges.{rules_of, answer_of, marks_of, rule_of, some_head, some_literal};
 
-use crate::literal::Test;
+use crate::judge::Judge;
 use crate::mark::Mark;
-use crate::tests::{is_in, meets};
+use crate::tests::{is_positive, mark_at};
+use base::parts::item_or;
 use book::book::Book;
 use book::kind::Kind;
 
-fn is_unmet_at<B: Book>(
-    book: &B,
-    answer: &[bool],
-    marks: &[Mark],
-    test: Test,
-    rule: u32,
-    at: u32,
-) -> bool
-    ensures { result ≡ unmet_at (meeting test (flagged answer.now) (marking marks.now)) (rule_at (B.meaning book.now) rule) at }
-{
-    match book.literal(rule, at) {
-        Some(literal) => !meets(test, answer, marks, literal),
-        None => false,
+impl<'a, B: Book> Judge<'a, B> {
+    // Whether the atom is in the answer.
+    pub(crate) fn is_in_answer(&self, atom: u32) -> bool
+        ensures { result ≡ answer_of self.now atom }
+    {
+        item_or(self.answer, atom as usize, false)
     }
-}
 
-// The first position of the body whose literal does not pass the test.
-pub(crate) fn first_unmet<B: Book>(
-    book: &B,
-    answer: &[bool],
-    marks: &[Mark],
-    test: Test,
-    rule: u32,
-) -> Option<u32>
-    ensures { result ≡ first_unmet (meeting test (flagged answer.now) (marking marks.now)) (rule_at (B.meaning book.now) rule) }
-{
-    let Some(size) = book.body_size(rule) else {
-        return None;
-    };
-    for at in 0..size {
-        if is_unmet_at(book, answer, marks, test, rule, at) {
-            return Some(at);
-        }
+    // Whether the atom is marked, and the mark says this.
+    fn says(&self, atom: u32, truth: bool) -> bool
+        ensures { result ≡ says truth (marks_of self.now atom) }
+    {
+        mark_at(self.marks, atom) == (if truth { Mark::True } else { Mark::False })
     }
-    None
-}
 
-fn head_is_at<B: Book>(book: &B, rule: u32, atom: u32, at: u32) -> bool
-    ensures { result ≡ passes (nat_eq atom) (head_atom (rule_at (B.meaning book.now) rule) at) }
-{
-    match book.head(rule, at) {
-        Some(head) => atom == head,
-        None => false,
+    // Whether its atom is marked as the literal has it.
+    pub(crate) fn holds(&self, literal: i32) -> bool
+        ensures { result ≡ literal_holds (marks_of self.now) literal }
+    {
+        self.says(literal.unsigned_abs(), literal >= 0)
     }
-}
 
-// Whether the rule has the atom in its head.
-pub(crate) fn is_in_head<B: Book>(book: &B, rule: u32, atom: u32) -> bool
-    ensures { result ≡ passes (fits_support atom) (rule_at (B.meaning book.now) rule) }
-{
-    let Some(size) = book.head_size(rule) else {
-        return false;
-    };
-    for at in 0..size {
-        if head_is_at(book, rule, atom, at) {
-            return true;
-        }
+    // Whether its atom is marked the other way.
+    fn fails(&self, literal: i32) -> bool
+        ensures { result ≡ literal_fails (marks_of self.now) literal }
+    {
+        self.says(literal.unsigned_abs(), literal < 0)
     }
-    false
-}
 
-fn head_is_true_at<B: Book>(book: &B, answer: &[bool], rule: u32, at: u32) -> bool
-    ensures { result ≡ passes (flagged answer.now) (head_atom (rule_at (B.meaning book.now) rule) at) }
-{
-    match book.head(rule, at) {
-        Some(head) => is_in(answer, head),
-        None => false,
+    // Whether the literal is true under the answer.
+    fn is_true(&self, literal: i32) -> bool
+        ensures { result ≡ literal_true (answer_of self.now) (answer_of self.now) literal }
+    {
+        self.is_in_answer(literal.unsigned_abs()) != (literal < 0)
     }
-}
 
-// Whether a head atom of the rule is in the answer.
-fn has_true_head<B: Book>(book: &B, answer: &[bool], rule: u32) -> bool
-    ensures { result ≡ passes (λ ρ. some (flagged answer.now) ρ.head) (rule_at (B.meaning book.now) rule) }
-{
-    let Some(size) = book.head_size(rule) else {
-        return false;
-    };
-    for at in 0..size {
-        if head_is_true_at(book, answer, rule, at) {
-            return true;
-        }
+    // The first position of the body whose literal does not pass the test.
+    pub(crate) fn first_unmet<F: Fn(i32) -> bool>(&self, rule: u32, test: F) -> Option<u32>
+        requires { F.IsAlwaysCallable test }
+        ensures { (p : ℤ → Bool) → ComputesOnLiterals (F.post test) p → result ≡ first_unmet p (rule_of B.meaning self.now rule) }
+    {
+        (0..self.book.body_size(rule).unwrap_or(0)).find(|at| {
+            self.book
+                .literal(rule, *at)
+                .is_some_and(|literal| !test(literal))
+        })
     }
-    false
-}
 
-fn is_constraint<B: Book>(book: &B, rule: u32) -> bool
-    ensures { result ≡ passes is_constraint (rule_at (B.meaning book.now) rule) }
-{
-    match (book.kind(rule), book.head_size(rule)) {
-        (Some(Kind::Plain), Some(size)) => size == 0,
-        _ => false,
+    // Whether a literal of the body passes the test.
+    fn any_literal<F: Fn(i32) -> bool>(&self, rule: u32, test: F) -> bool
+        requires { F.IsAlwaysCallable test }
+        ensures { (p : ℤ → Bool) → ComputesOnLiterals (F.post test) p → result ≡ some_literal p (rule_of B.meaning self.now rule) }
+    {
+        (0..self.book.body_size(rule).unwrap_or(0)).any(|at| {
+            self.book
+                .literal(rule, at)
+                .is_some_and(|literal| test(literal))
+        })
     }
-}
 
-// Whether the atom stands positive in the rule's body.
-fn is_in_body<B: Book>(book: &B, answer: &[bool], marks: &[Mark], rule: u32, atom: u32) -> bool
-    ensures { result ≡ passes (in_body atom) (rule_at (B.meaning book.now) rule) }
-{
-    first_unmet(book, answer, marks, Test::IsNot(atom), rule).is_some()
-}
+    // Whether an atom of the head passes the test.
+    fn any_head<F: Fn(u32) -> bool>(&self, rule: u32, test: F) -> bool
+        requires { F.IsAlwaysCallable test }
+        ensures { (p : ℕ → Bool) → Computes (F.post test) p → result ≡ some_head p (rule_of B.meaning self.now rule) }
+    {
+        (0..self.book.head_size(rule).unwrap_or(0)).any(|at| {
+            self.book.head(rule, at).is_some_and(|atom| test(atom))
+        })
+    }
 
-// Whether the rule is a constraint with the atom positive in its body.
-pub(crate) fn can_require<B: Book>(
-    book: &B,
-    answer: &[bool],
-    marks: &[Mark],
-    rule: u32,
-    atom: u32,
-) -> bool
-    ensures { result ≡ passes (fits_required atom) (rule_at (B.meaning book.now) rule) }
-{
-    is_constraint(book, rule) && is_in_body(book, answer, marks, rule, atom)
-}
+    // Whether the rule has the atom in its head.
+    pub(crate) fn is_in_head(&self, rule: u32, atom: u32) -> bool
+        ensures { result ≡ some_head (nat_eq atom) (rule_of B.meaning self.now rule) }
+    {
+        self.any_head(rule, |head| head == atom)
+    }
 
-fn body_fails<B: Book>(book: &B, answer: &[bool], marks: &[Mark], rule: u32) -> bool
-    ensures { result ≡ passes (body_fails (marking marks.now)) (rule_at (B.meaning book.now) rule) }
-{
-    first_unmet(book, answer, marks, Test::FailsNot, rule).is_some()
-}
+    // Whether a head atom of the rule is in the answer.
+    fn has_true_head(&self, rule: u32) -> bool
+        ensures { result ≡ some_head (answer_of self.now) (rule_of B.meaning self.now rule) }
+    {
+        self.any_head(rule, |head| self.is_in_answer(head))
+    }
 
-// Whether the rule has the atom in its head, and no literal of its body fails.
-pub(crate) fn is_unfailing<B: Book>(
-    book: &B,
-    answer: &[bool],
-    marks: &[Mark],
-    rule: u32,
-    atom: u32,
-) -> bool
-    ensures { result ≡ unfailing_at (B.meaning book.now) (marking marks.now) atom rule }
-{
-    is_in_head(book, rule, atom) && !body_fails(book, answer, marks, rule)
-}
+    // Whether it is a plain rule without a head.
+    fn is_constraint(&self, rule: u32) -> bool
+        ensures { result ≡ passes is_constraint (rule_of B.meaning self.now rule) }
+    {
+        self.book.kind(rule) == Some(Kind::Plain) && self.book.head_size(rule) == Some(0)
+    }
 
-pub(crate) fn is_broken<B: Book>(book: &B, answer: &[bool], marks: &[Mark], rule: u32) -> bool
-    ensures { result ≡ broken_at (B.meaning book.now) (flagged answer.now) rule }
-{
-    match book.kind(rule) {
-        Some(Kind::Plain) => {
-            first_unmet(book, answer, marks, Test::TrueUnder, rule).is_none()
-                && !has_true_head(book, answer, rule)
-        }
-        _ => false,
+    // Whether the atom stands positive in the rule's body.
+    fn is_in_body(&self, rule: u32, atom: u32) -> bool
+        ensures { result ≡ some_literal (is_positive atom) (rule_of B.meaning self.now rule) }
+    {
+        self.any_literal(rule, |literal| is_positive(atom, literal))
+    }
+
+    // Whether the rule is a constraint with the atom positive in its body.
+    #[tactic(auto, unfolding(crate::specs::Judges::some_literal))]
+    pub(crate) fn can_require(&self, rule: u32, atom: u32) -> bool
+        ensures { result ≡ passes (fits_required atom) (rule_of B.meaning self.now rule) }
+    {
+        self.is_constraint(rule) && self.is_in_body(rule, atom)
+    }
+
+    // Whether a literal of the body fails.
+    fn body_fails(&self, rule: u32) -> bool
+        ensures { result ≡ some_literal (literal_fails (marks_of self.now)) (rule_of B.meaning self.now rule) }
+    {
+        self.any_literal(rule, |literal| self.fails(literal))
+    }
+
+    // Whether the rule has the atom in its head, and no literal of its body fails.
+    #[tactic(auto, unfolding(crate::specs::Judges::some_head, crate::specs::Judges::some_literal))]
+    fn is_unfailing(&self, rule: u32, atom: u32) -> bool
+        ensures { result ≡ unfailing_at (rules_of B.meaning self.now) (marks_of self.now) atom rule }
+    {
+        self.is_in_head(rule, atom) && !self.body_fails(rule)
+    }
+
+    // The first rule with the atom in its head that has no failing literal.
+    pub(crate) fn first_unfailing(&self, atom: u32) -> Option<u32>
+        ensures { result ≡ first_unfailing (rules_of B.meaning self.now) (marks_of self.now) atom }
+    {
+        (0..self.book.rules()).find(|rule| self.is_unfailing(*rule, atom))
+    }
+
+    // Whether it is a plain rule whose body is true under the answer while no head atom is.
+    #[tactic(auto, unfolding(crate::specs::Judges::some_head, crate::specs::Judges::some_literal))]
+    fn is_broken(&self, rule: u32) -> bool
+        ensures { result ≡ broken_at (rules_of B.meaning self.now) (answer_of self.now) rule }
+    {
+        self.book.kind(rule) == Some(Kind::Plain)
+            && !self.has_true_head(rule)
+            && !self.any_literal(rule, |literal| !self.is_true(literal))
+    }
+
+    // The first rule that is broken under the answer.
+    pub(crate) fn first_broken(&self) -> Option<u32>
+        ensures { result ≡ first_broken (rules_of B.meaning self.now) (answer_of self.now) }
+    {
+        (0..self.book.rules()).find(|rule| self.is_broken(*rule))
     }
 }

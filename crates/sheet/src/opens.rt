@@ -5,8 +5,9 @@ ghost use Rattle.sheet.specs.Law.{StaysReliable};
 ghost use Rattle.sheet.specs.View.{view, leaving};
 
 use crate::error::SheetError;
-use crate::flags::{clear, put_assumed, put_literals};
-use crate::lists::{fault_at, first_broken, first_fault};
+use crate::flags::{put_assumed, put_literals};
+use crate::judge::Judge;
+use crate::lists::{fault_at, first_fault};
 use crate::sheet::Sheet;
 use book::book::Book;
 
@@ -29,9 +30,15 @@ impl<'b, B: Book> Sheet<'b, B> {
             return Err(fault_at(self.book, literals, at));
         }
         put_literals(&mut self.answer, &mut self.assumed, literals);
-        if let Some(rule) = first_broken(self.book, &self.answer, &self.marks) {
-            clear(&mut self.answer);
-            clear(&mut self.assumed);
+        // the facts of the sheet do not hold here, so the judge is made of its lists
+        let judge = Judge {
+            book: self.book,
+            answer: &self.answer,
+            marks: &self.marks,
+        };
+        if let Some(rule) = judge.first_broken() {
+            self.answer.fill(false);
+            self.assumed.fill(false);
             return Err(SheetError::ViolatedRule(rule));
         }
         self.opened = true;

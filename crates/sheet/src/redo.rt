@@ -1,38 +1,23 @@
 // The entries below a struck one, tested again and moved up.
-ghost use Rattle.std.specs.Prelude.{◌≡◌, ℕ, ◌+◌, ◌<◌, ◌≤◌, map, length, take, drop, is_ok};
+ghost use Rattle.std.specs.Prelude.{◌≡◌, ℕ, ◌+◌, ◌<◌, ◌≤◌, map, length, take, drop};
 ghost use Rattle.sheet.specs.Enter.{enter_all};
 ghost use Rattle.sheet.specs.Marks.{marked_all, assuming};
-ghost use Rattle.sheet.specs.Strike.{entry_at, place_of};
-ghost use Rattle.sheet.specs.Verdicts.{verdict};
+ghost use Rattle.sheet.specs.Strike.{place_of};
 ghost use Rattle.sheet.specs.Kept.{flagged, marking, unmarked_in, with_marks, mark_assumed, open_with};
 
 use crate::flags::put_assumed;
-use crate::judge::judge;
+use crate::judge::Judge;
 use crate::mark::Mark;
 use crate::proposal::Proposal;
 use crate::sheets::put_mark;
-use base::parts::{item, part};
+use base::parts::part;
 use book::book::Book;
-
-fn is_entry_at(entries: &[Proposal], atom: u32, at: usize) -> bool
-    ensures { result ≡ entry_at entries.now atom at }
-{
-    match item(entries, at) {
-        Some(entry) => atom == entry.atom,
-        None => false,
-    }
-}
 
 // Where the atom's entry stands.
 pub(crate) fn place_of(entries: &[Proposal], atom: u32) -> Option<usize>
     ensures { result ≡ place_of entries.now atom }
 {
-    for at in 0..entries.len() {
-        if is_entry_at(entries, atom, at) {
-            return Some(at);
-        }
-    }
-    None
+    entries.iter().position(|entry| entry.atom == atom)
 }
 
 fn put_marks(marks: &mut [Mark], entries: &[Proposal])
@@ -41,12 +26,6 @@ fn put_marks(marks: &mut [Mark], entries: &[Proposal])
     for entry in entries {
         put_mark(marks, *entry);
     }
-}
-
-fn allows<B: Book>(book: &B, answer: &[bool], marks: &[Mark], proposal: Proposal) -> bool
-    ensures { result ≡ is_ok (verdict (B.meaning book.now) (flagged answer.now) (marking marks.now) proposal) }
-{
-    judge(book, answer, marks, proposal).is_ok()
 }
 
 // The assumed atoms and these entries are marked, and nothing else.
@@ -59,6 +38,7 @@ fn mark_again(marks: &mut [Mark], assumed: &[bool], entries: &[Proposal])
 }
 
 // The entry at a place goes, and each later one that is still allowed is kept. Answers how many stand then.
+// It is lent the lists and not the sheet, whose facts do not hold in between.
 pub(crate) fn redo<B: Book>(
     book: &B,
     answer: &[bool],
@@ -79,7 +59,12 @@ pub(crate) fn redo<B: Book>(
     let mut to = from;
     for at in from + 1..entries.len() {
         let entry = entries[at];
-        if allows(book, answer, marks, entry) {
+        let judge = Judge {
+            book,
+            answer,
+            marks,
+        };
+        if judge.allows(entry) {
             put_mark(marks, entry);
             entries[to] = entry;
             to += 1;

@@ -20,16 +20,10 @@ impl<'b, B: Book> Sheet<'b, B> {
         ensures { (result, view B.meaning self.new) ≡ leaving (λ R s. calling R s (call_of call.entry)) (view B.meaning self.old) }
     {
         match call {
-            Call::Open(literals) => {
-                self.open(literals)?;
-                Ok(Done::Opened)
-            }
-            Call::Enter(proposal) => {
-                self.enter(proposal)?;
-                Ok(Done::Entered)
-            }
-            Call::Strike(atom) => Ok(Done::Struck(self.strike(atom)?)),
-            Call::Complete => Ok(Done::Completed(self.complete()?)),
+            Call::Open(literals) => self.open(literals).map(|_| Done::Opened),
+            Call::Enter(proposal) => self.enter(proposal).map(|_| Done::Entered),
+            Call::Strike(atom) => self.strike(atom).map(Done::Struck),
+            Call::Complete => self.complete().map(Done::Completed),
         }
     }
 }

@@ -1,16 +1,18 @@
 // Making a sheet, looking at it, and entering.
 ghost use Rattle.std.specs.Prelude.{◌≡◌, IfOk, slice_set};
-ghost use Rattle.sheet.specs.States.{new as blank};
+ghost use Rattle.sheet.specs.Judges.{rules_of, answer_of, marks_of};
+ghost use Rattle.sheet.specs.States.{new as blank, marks};
 ghost use Rattle.sheet.specs.Law.{SoundAndReliable};
 ghost use Rattle.sheet.specs.LookUps.{mark_of, entry_in};
 ghost use Rattle.sheet.specs.Marks.{claim, mark_for};
 ghost use Rattle.sheet.specs.View.{view};
 
+use crate::judge::Judge;
 use crate::mark::Mark;
 use crate::proposal::Proposal;
 use crate::sheet::Sheet;
 use crate::tests::{is_atom, mark_at, mark_for};
-use base::parts::item;
+use base::parts::{item, put};
 use book::book::Book;
 use std::alloc::{AllocError, Global};
 
@@ -42,6 +44,19 @@ impl<'b, B: Book> Sheet<'b, B> {
         })
     }
 
+    // What a proposal is judged by now.
+    pub(crate) fn judge(&self) -> Judge<'_, B>
+        ensures rules { rules_of B.meaning result ≡ (view B.meaning self.now).rules }
+        ensures answer { answer_of result ≡ (view B.meaning self.now).state.answer }
+        ensures marks { marks_of result ≡ marks (view B.meaning self.now).state }
+    {
+        Judge {
+            book: self.book,
+            answer: &self.answer,
+            marks: &self.marks,
+        }
+    }
+
     // The mark of an atom of the book.
     pub fn mark(&self, atom: u32) -> Option<Mark>
         ensures { result ≡ mark_of (view B.meaning self.now) atom }
@@ -65,8 +80,5 @@ impl<'b, B: Book> Sheet<'b, B> {
 pub(crate) fn put_mark(marks: &mut [Mark], proposal: Proposal)
     ensures { marks.new ≡ slice_set marks.old proposal.atom (mark_for (claim proposal.reason)) }
 {
-    let at = proposal.atom as usize;
-    if at < marks.len() {
-        marks[at] = mark_for(proposal.reason);
-    }
+    put(marks, proposal.atom as usize, mark_for(proposal.reason));
 }

@@ -29,9 +29,7 @@ impl<'b, B: Book> Sheet<'b, B> {
         if !is_atom(self.book.atoms(), atom) {
             return Err(SheetError::UnknownAtom(0));
         }
-        let Some(at) = place_of(&self.entries, atom) else {
-            return Err(SheetError::NoEntry);
-        };
+        let at = place_of(&self.entries, atom).ok_or(SheetError::NoEntry)?;
         let before = self.entries.len();
         let kept = redo(
             self.book,

@@ -1,13 +1,24 @@
-use Rattle.std.proofs.Common.{arith, length-append}
-use Rattle.base.proofs.Puts.{sets_append}
+use Rattle.std.proofs.Common.{◌+◌, drop, Ok, arith, rules}
+use Rattle.std.specs.List.{slice_get}
+use Rattle.base.proofs.Sinks.{takes_none, takes_then, takes_refused}
+use Rattle.aspif.specs.Texts.{rule_lines}
+use Rattle.aspif.specs.Integers.{line_in}
 use Rattle.aspif.proofs.Lines.{lines_more, lines_all}
 use Rattle.aspif.proofs.puts.put_lines.Goals as goal
 
-pub put_line-requires : goal.put_line-requires
-put_line-requires g c = grind (arith, lines_more, length-append)
+pub returns-in_err-put_line : goal.returns-in_err-put_line
+returns-in_err-put_line g c =
+    let ρs = (g.B.Book.meaning c.args.book.now).rules in
+    let i = c.loop-rule.rule in
+    c.loop-rule.invariant _ _ (takes_refused _ _ g.S.Sink.laws (line_in (slice_get ρs i)) (rule_lines (drop (i + 1) ρs)) _ (lines_more ρs i (omega arith)) (search rules) (search rules) c.put_line.ensures)
 
 pub loop-rule-preserved : goal.loop-rule-preserved
-loop-rule-preserved g c = (grind (arith, lines_more, sets_append), grind (arith, lines_more, length-append))
+loop-rule-preserved g c = λ r t rest.
+    let ρs = (g.B.Book.meaning c.args.book.now).rules in
+    let i = c.loop-rule.rule in
+    c.loop-rule.invariant r t (takes_then _ _ g.S.Sink.laws (line_in (slice_get ρs i)) (rule_lines (drop (i + 1) ρs)) _ (lines_more ρs i (omega arith)) (search rules) c.put_line.ensures rest)
 
 pub returns : goal.returns
-returns g c = record { end = grind (arith, lines_all); list = grind (arith, lines_all) }
+returns g c =
+    let ρs = (g.B.Book.meaning c.args.book.now).rules in
+    c.loop-rule.invariant (Ok tt) _ (takes_none _ _ g.S.Sink.laws _ _ (lines_all ρs c.loop-rule.rule (omega arith)))

@@ -1,10 +1,11 @@
-use Rattle.std.proofs.Common.{◌≡◌, ◌+◌, length, drop}
-use lib.Seq.{sets}
+use Rattle.std.proofs.Common.{drop, Result}
+use Rattle.base.specs.Sinks.{Takes}
+use Rattle.base.specs.declared.short.TooShort.{TooShort}
 use Rattle.aspif.specs.Texts.{rule_lines}
 use Rattle.aspif.proofs.puts.put_lines.Given as goal
 
+-- whatever is taken from here on for the rules that are left is taken from the first on for all
 abbrev pub invariant-loop-rule : goal.invariant-loop-rule
 invariant-loop-rule g l =
     let ρs = (g.B.Book.meaning l.book).rules in
-    (sets l.out l.to (rule_lines (drop l.rule ρs)) ≡ sets l.initial.out l.at (rule_lines ρs))
-    × (l.to + length (rule_lines (drop l.rule ρs)) ≡ l.at + length (rule_lines ρs))
+    (r : Result (Unit {0}) TooShort) (t : _) → Takes g.S.Sink.fits g.S.Sink.after l.sink (rule_lines (drop l.rule ρs)) r t → Takes g.S.Sink.fits g.S.Sink.after l.initial.sink (rule_lines ρs) r t

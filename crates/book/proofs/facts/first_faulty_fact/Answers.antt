@@ -1,19 +1,18 @@
-use Rattle.std.proofs.Common.{not, length, sym, ap, arith}
-use Rattle.std.proofs.lemmas.Bool.{and_parts, ltb-true}
-use Rattle.base.proofs.Search.{least_next, least_found, least_end}
+use Rattle.std.proofs.Common.{not, length, rules, sym, refl, arith, ◌∙◌, ℕ}
+use Rattle.base.proofs.Found.{least_from_find}
+use Rattle.base.proofs.Search.{least_le}
 use Rattle.book.specs.Facts.{sound_fact}
 use Rattle.book.proofs.facts.first_faulty_fact.Goals as goal
 
-pub returns-then-not-is_sound_fact : goal.returns-then-not-is_sound_fact
-returns-then-not-is_sound_fact c =
-    least_found (λ j. not (sound_fact c.args.atoms c.args.facts.now j)) c.loop-i.i (length c.args.facts.now) (omega arith) (ap not c.if-not-is_sound_fact.ensures) c.loop-i.invariant.0
-
-pub loop-i-preserved : goal.loop-i-preserved
-loop-i-preserved c =
-    let sound = c.if-not-is_sound_fact.ensures in
-    let few = ltb-true c.loop-i.i 2048 (and_parts _ _ (sym sound)).0 in
-    (least_next (λ j. not (sound_fact c.args.atoms c.args.facts.now j)) c.loop-i.i (ap not sound) c.loop-i.invariant.0, omega arith)
+-- the fact at 2048 is not sound, so what is found stands there or before
+pub map-requires : goal.map-requires
+map-requires c = λ x e y z.
+    let test = λ (j : ℕ). not (sound_fact c.args.atoms c.args.facts.now j) in
+    let found = least_from_find test (length c.args.facts.now) _ _ _ c.find.ensures.ran (λ i b q k. search rules) in
+    let few = least_le test 2048 refl (length c.args.facts.now) x (sym e ∙ found) in
+    omega arith
 
 pub returns : goal.returns
 returns c =
-    least_end (λ j. not (sound_fact c.args.atoms c.args.facts.now j)) c.loop-i.i (length c.args.facts.now) (omega arith) c.loop-i.invariant.0
+    let found = least_from_find (λ j. not (sound_fact c.args.atoms c.args.facts.now j)) (length c.args.facts.now) _ _ _ c.find.ensures.ran (λ x b q k. search rules) in
+    grind (arith)

@@ -1,5 +1,6 @@
-use Rattle.std.proofs.Common.{◌≡◌, cond, length, Ok, Err, refl, ap, ◌∙◌, rules}
+use Rattle.std.proofs.Common.{◌≡◌, cond, Ok, Err, refl, ap, ◌∙◌, rules}
 use Rattle.aspif.specs.declared.error.TextError.TheVariants.{TooShort}
+use Rattle.reader.specs.Held.{held}
 use Rattle.reader.proofs.Back.{written_reads_back}
 use Rattle.reader.proofs.Booked.{as_before, found_book}
 use Rattle.reader.proofs.Forward.{every_text_has_its_verdict}
@@ -10,44 +11,36 @@ use Rattle.reader.proofs.reading.read.Goals as goal
 pub returns-in_err-counts : goal.returns-in_err-counts
 returns-in_err-counts c =
     let text = c.args.text.now in
+    let old = c.args.lists.now in
     let x = c.in_err-counts.field-0.0 in
     let r = c.from_residual.result in
     let refused : r ≡ Err x = search rules in
     let answer = refused ∙ answer_is text _ (Err x) c.in_err-counts.ensures in
-    let integers = as_before r x _ c.args.integers.now refused in
-    let starts = as_before r x _ c.args.starts.now refused in
-    let places = as_before r x _ c.args.places.now refused in
-    let lengths = as_before r x _ c.args.lengths.now refused in
     record {
       answer = answer;
-      integers = integers;
-      starts = starts;
-      places = places;
-      lengths = lengths;
-      assumed = as_before r x _ c.args.assumed.now refused;
+      lists = as_before r x _ (held old) refused;
+      same = record { integers = refl; starts = refl; places = refl; lengths = refl; assumed = refl };
       verdict = every_text_has_its_verdict text;
       programs = reads_exactly_programs text;
       together = said_together text;
       back = written_reads_back text;
-      book = found_book text c.args.integers.now c.args.starts.now c.args.places.now c.args.lengths.now (length c.args.assumed.now) r answer _ _ _ _ integers starts places lengths;
+      book = found_book text (held old) r answer (held old) (as_before r x _ (held old) refused);
     }
 
 pub returns-then-not-has_room : goal.returns-then-not-has_room
 returns-then-not-has_room c =
     let text = c.args.text.now in
+    let old = c.args.lists.now in
     let answer = ap (λ b. cond b (Ok c.in_ok-counts.counts) (Err TooShort)) c.if-not-has_room.ensures ∙ answer_is text _ (Ok c.in_ok-counts.counts) c.in_ok-counts.ensures in
     record {
       answer = answer;
-      integers = refl;
-      starts = refl;
-      places = refl;
-      lengths = refl;
-      assumed = refl;
+      lists = refl;
+      same = record { integers = refl; starts = refl; places = refl; lengths = refl; assumed = refl };
       verdict = every_text_has_its_verdict text;
       programs = reads_exactly_programs text;
       together = said_together text;
       back = written_reads_back text;
-      book = found_book text c.args.integers.now c.args.starts.now c.args.places.now c.args.lengths.now (length c.args.assumed.now) (Err TooShort) answer _ _ _ _ refl refl refl refl;
+      book = found_book text (held old) (Err TooShort) answer (held old) refl;
     }
 
 pub returns : goal.returns
@@ -56,14 +49,11 @@ returns c =
     let answer = ap (λ b. cond b (Ok c.in_ok-counts.counts) (Err TooShort)) c.if-not-has_room.ensures ∙ answer_is text _ (Ok c.in_ok-counts.counts) c.in_ok-counts.ensures in
     record {
       answer = answer;
-      integers = c.fill_all.ensures.integers;
-      starts = c.fill_all.ensures.starts;
-      places = c.fill_all.ensures.places;
-      lengths = c.fill_all.ensures.lengths;
-      assumed = c.fill_all.ensures.assumed;
+      lists = c.fill.ensures.lists;
+      same = c.fill.ensures.same;
       verdict = every_text_has_its_verdict text;
       programs = reads_exactly_programs text;
       together = said_together text;
       back = written_reads_back text;
-      book = found_book text c.args.integers.now c.args.starts.now c.args.places.now c.args.lengths.now (length c.args.assumed.now) (Ok c.in_ok-counts.counts) answer _ _ _ _ c.fill_all.ensures.integers c.fill_all.ensures.starts c.fill_all.ensures.places c.fill_all.ensures.lengths;
+      book = found_book text (held c.args.lists.now) (Ok c.in_ok-counts.counts) answer (held c.fill.new.self) c.fill.ensures.lists;
     }

@@ -1,10 +1,14 @@
-use Rattle.std.proofs.Common.{◌≡◌, ◌-◌, ◌≤◌, true, length}
-use Rattle.reader.specs.Scan.{nothing, keeps, statements_from, counts_of}
+use Rattle.std.proofs.Common.{◌≡◌, ◌-◌, true, length}
+use Rattle.reader.specs.Scan.{nothing, keeps}
+use Rattle.reader.proofs.Turns.{left}
 use Rattle.reader.proofs.survey.survey.Given as goal
 
-abbrev pub invariant-loop-line : goal.invariant-loop-line
-invariant-loop-line l =
-    let n = length l.text in
-    (counts_of l.counts (statements_from (n - l._line) l.counts l.text l.at) ≡ counts_of nothing (statements_from n nothing l.text 10))
+abbrev pub invariant-loop-statement : goal.invariant-loop-statement
+invariant-loop-statement l =
+    (left l.counts l.text l.cursor.at ≡ left nothing l.text 10)
     × (keeps l.counts ≡ true)
-    × (l.at ≤ length l.text)
+    × (l.cursor.text.now ≡ l.text)
+    × (l.line ≡ l.cursor.at)
+
+abbrev pub decreases-loop-statement : goal.decreases-loop-statement
+decreases-loop-statement l = length l.text - l.cursor.at

@@ -1,24 +1,22 @@
-use Rattle.std.proofs.Common.{length, sym, arith}
-use Rattle.base.proofs.Search.{least_next, least_found, least_end}
-use Rattle.sheet.specs.Open.{first_fault}
+use Rattle.std.proofs.Common.{length, sym, ◌∙◌, arith, rules}
+use Rattle.base.proofs.Found.{least_from_find}
+use Rattle.sheet.specs.Open.{faulty_at, first_fault}
 use Rattle.sheet.proofs.Opening.{fault_early}
 use Rattle.sheet.proofs.lists.first_fault.Goals as goal
 
-pub overflow_cast-result : goal.overflow_cast-result
+-- what is found stands so early that its place fits
+pub map-requires : goal.map-requires
 unfolding first_fault
-overflow_cast-result g c =
+map-requires g c = λ at e y z.
     let R = g.B.Book.meaning c.args.book.now in
     let zs = c.args.literals.now in
-    let found = least_found _ c.loop-at.at (length zs) (omega arith) c.if-is_faulty_at.ensures c.loop-at.invariant in
-    omega (arith, fault_early R zs c.loop-at.at (sym found), (g.B.Book.lawful c.args.book.now).few_atoms)
-
-pub returns-then-is_faulty_at : goal.returns-then-is_faulty_at
-unfolding first_fault
-returns-then-is_faulty_at g c = least_found _ c.loop-at.at (length c.args.literals.now) (omega arith) c.if-is_faulty_at.ensures c.loop-at.invariant
-
-pub loop-at-preserved : goal.loop-at-preserved
-loop-at-preserved g c = least_next _ c.loop-at.at c.if-is_faulty_at.ensures c.loop-at.invariant
+    let found = least_from_find (faulty_at R zs) (length zs) _ _ _ c.find.ensures.ran (λ i b q k. search rules) in
+    omega (arith, fault_early R zs at (sym found ∙ e), (g.B.Book.lawful c.args.book.now).few_atoms)
 
 pub returns : goal.returns
 unfolding first_fault
-returns g c = least_end _ c.loop-at.at (length c.args.literals.now) (omega arith) c.loop-at.invariant
+returns g c =
+    let R = g.B.Book.meaning c.args.book.now in
+    let zs = c.args.literals.now in
+    let found = least_from_find (faulty_at R zs) (length zs) _ _ _ c.find.ensures.ran (λ i b q k. search rules) in
+    grind arith

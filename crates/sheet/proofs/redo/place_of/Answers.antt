@@ -1,15 +1,12 @@
-use Rattle.std.proofs.Common.{length, arith}
-use Rattle.base.proofs.Search.{least_next, least_found, least_end}
-use Rattle.sheet.specs.Strike.{place_of}
+use Rattle.std.proofs.Common.{◌≡◌, true, false, rules, tests}
+use Rattle.std.proofs.lemmas.Iterator.{IsFirst-from_position, YieldsList-from_slice}
+use Rattle.sheet.specs.Strike.{is_of, place_of}
+use Rattle.sheet.proofs.Searches.{least_from_position}
 use Rattle.sheet.proofs.redo.place_of.Goals as goal
-
-pub returns-then-is_entry_at : goal.returns-then-is_entry_at
-unfolding place_of
-returns-then-is_entry_at c = least_found _ c.loop-at.at (length c.args.entries.now) (omega arith) c.if-is_entry_at.ensures c.loop-at.invariant
-
-pub loop-at-preserved : goal.loop-at-preserved
-loop-at-preserved c = least_next _ c.loop-at.at c.if-is_entry_at.ensures c.loop-at.invariant
 
 pub returns : goal.returns
 unfolding place_of
-returns c = least_end _ c.loop-at.at (length c.args.entries.now) (omega arith) c.loop-at.invariant
+returns c =
+    let of = is_of c.args.atom in
+    least_from_position of c.args.entries.now c.position.result
+    (IsFirst-from_position _ _ c.position.result (λ e. of e ≡ true) (λ e. of e ≡ false) c.position.ensures.ran (YieldsList-from_slice c.args.entries.now cc) (λ e q k. search (rules, tests)) (λ e q k. search (rules, tests)))

@@ -1,13 +1,10 @@
-use Rattle.std.proofs.Common.{ℕ, map, sym, refl, ap, ◌∙◌, arith}
+use Rattle.std.proofs.Common.{ℕ, map, refl, ap, ◌∙◌, arith}
 use Rattle.sheet.specs.Marks.{assuming}
 use Rattle.sheet.specs.Kept.{flagged, marking, with_marks, mark_assumed}
-use Rattle.sheet.proofs.Redone.{carry, turn_in, turn_out, turn_end}
+use Rattle.sheet.proofs.Redone.{carry, turn_in, turn_out}
 use Rattle.sheet.proofs.Stored.{again_above, room_above}
 use Rattle.sheet.proofs.redo.redo.Goals as goal
 use Rattle.sheet.proofs.redo.redo.Goals.{then-allows, else-allows}
-
-pub mark_again-requires : goal.mark_again-requires
-mark_again-requires g c = c.requires.sized.0 ∙ sym c.requires.sized.1
 
 pub loop-at-init : goal.loop-at-init
 loop-at-init g c =
@@ -25,8 +22,3 @@ loop-at-preserved g c =
       | then-allows w ↦ carry _ _ _ _ _ _ _ _ _ _ _ w.to-is w.marks-is w.entries-is (turn_in _ _ _ _ l.to l.at l.marks l.entries _ (omega arith) l.invariant _ (g.B.Book.lawful c.args.book.now).few_atoms (omega (arith, c.requires.sized.0)) w.if-allows.ensures w.put_mark.ensures)
       | else-allows w ↦ carry _ _ _ _ _ _ _ _ _ _ _ w.to-is w.marks-is w.entries-is (turn_out _ _ _ _ l.to l.at l.marks l.entries _ (omega arith) l.invariant w.if-allows.ensures)
     ]
-
-pub returns : goal.returns
-returns g c =
-    let l = c.loop-at in
-    record { within = omega (arith, l.invariant.before); tied = l.invariant.tied; room = l.invariant.room; kept = turn_end _ _ _ _ l.to l.at l.marks l.entries (omega arith) l.invariant }

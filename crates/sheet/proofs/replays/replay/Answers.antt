@@ -1,7 +1,7 @@
 use Rattle.std.proofs.Common.{arith, rules}
 use Rattle.sheet.specs.View.{view}
 use Rattle.sheet.proofs.KnownRuns.{known_runs_are_right}
-use Rattle.sheet.proofs.Replaying.{none_made, one_made, all_made}
+use Rattle.sheet.proofs.Replaying.{one_made, all_made}
 use Rattle.sheet.proofs.replays.replay.Goals as goal
 
 pub returns-in_err-sheet : goal.returns-in_err-sheet
@@ -9,14 +9,6 @@ returns-in_err-sheet g c = let known = known_runs_are_right in search rules
 
 pub returns-in_err-answers : goal.returns-in_err-answers
 returns-in_err-answers g c = let known = known_runs_are_right in search rules
-
-pub loop-call-init : goal.loop-call-init
-loop-call-init g c =
-    let made = c.in_ok-answers.ensures in
-    (none_made (g.B.Book.meaning c.args.book.now) c.args.calls.now _ _ made.items c.in_ok-sheet.ensures.is, search rules, omega (arith, made.capacity))
-
-pub push_reserved-requires : goal.push_reserved-requires
-push_reserved-requires g c = omega (arith, c.loop-call.invariant.1, c.loop-call.invariant.2)
 
 pub loop-call-preserved : goal.loop-call-preserved
 loop-call-preserved g c =

@@ -5,12 +5,14 @@ use Rattle.sheet.proofs.Called.{stays}
 use Rattle.sheet.proofs.Keeping.{complete_sound}
 use Rattle.sheet.proofs.sheet.Sheet.complete.Goals as goal
 
-pub returns : goal.returns
-returns g c =
+pub returns-clause-keeps : goal.returns-clause-keeps
+returns-clause-keeps g c =
     let s = c.args.self.now in
     let v = view g.B.Book.meaning s in
-    record {
-      does = c.finish.ensures;
-      keeps = λ k. stays v.rules _ _ (g.B.Book.lawful s.book.now) (ap (λ o. o.1) c.finish.ensures) (complete_sound v.rules v.state k);
-      honest = λ k. (sound_reliable v.rules (g.B.Book.lawful s.book.now) v.state k).complete;
-    }
+    λ k. stays v.rules _ _ (g.B.Book.lawful s.book.now) (ap (λ o. o.1) c.finish.ensures) (complete_sound v.rules v.state k)
+
+pub returns-clause-honest : goal.returns-clause-honest
+returns-clause-honest g c =
+    let s = c.args.self.now in
+    let v = view g.B.Book.meaning s in
+    λ k. (sound_reliable v.rules (g.B.Book.lawful s.book.now) v.state k).complete

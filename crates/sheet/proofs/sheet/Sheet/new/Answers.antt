@@ -1,11 +1,7 @@
-use Rattle.std.proofs.Common.{◌≡◌, false, replicate, vec_items, vec_len, sym, ap, ◌∙◌, subst, arith, rules}
+use Rattle.std.proofs.Common.{◌≡◌, false, replicate, vec_items, vec_len, sym, ◌∙◌, arith, rules}
 use Rattle.std.proofs.lemmas.Bool.{cond-false}
 use Rattle.sheet.specs.Kept.{flagged}
-use Rattle.sheet.specs.Law.{SoundAndReliable}
-use Rattle.sheet.specs.States.{new}
-use Rattle.sheet.proofs.Called.{relied}
-use Rattle.sheet.proofs.Keeping.{new_sound}
-use Rattle.sheet.proofs.Stored.{unmarked_most, no_flag, no_mark, new_state}
+use Rattle.sheet.proofs.Stored.{unmarked_most, no_flag, no_mark}
 use Rattle.sheet.proofs.sheet.Sheet.new.Goals as goal
 
 pub invariant_of-result : goal.invariant_of-result
@@ -29,11 +25,3 @@ invariant_of-result g c =
       unanswered = λ p _. rw a (no_flag n p);
       unassuming = λ p _. rw d (no_flag n p);
     }
-
-pub returns : goal.returns
-returns g c =
-    let n = c.places-n.result in
-    let R = g.B.Book.meaning c.args.book.now in
-    let is = ap (λ s. record { rules = R; state = s })
-    (new_state n _ _ _ (c.in_ok-answer.ensures.items_if_clones_equal (λ y e. e)) (c.in_ok-assumed.ensures.items_if_clones_equal (λ y e. e)) c.in_ok-entries.ensures.items) in
-    record { is = is; sound = subst SoundAndReliable (sym is) (relied (record { rules = R; state = new }) (g.B.Book.lawful c.args.book.now) (new_sound R)) }

@@ -4,11 +4,8 @@ use Rattle.sheet.proofs.Called.{stays}
 use Rattle.sheet.proofs.Keeping.{open_sound}
 use Rattle.sheet.proofs.sheet.Sheet.open.Goals as goal
 
-pub returns : goal.returns
-returns g c =
+pub returns-clause-keeps : goal.returns-clause-keeps
+returns-clause-keeps g c =
     let s = c.args.self.now in
     let v = view g.B.Book.meaning s in
-    record {
-      does = c.begin.ensures;
-      keeps = λ k. stays v.rules _ _ (g.B.Book.lawful s.book.now) (ap (λ o. o.1) c.begin.ensures) (open_sound v.rules v.state k c.args.literals.now);
-    }
+    λ k. stays v.rules _ _ (g.B.Book.lawful s.book.now) (ap (λ o. o.1) c.begin.ensures) (open_sound v.rules v.state k c.args.literals.now)

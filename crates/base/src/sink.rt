@@ -1,0 +1,23 @@
+// What takes bytes piece by piece.
+ghost use Rattle.std.specs.Prelude.{ℕ, Bool, List};
+ghost use Rattle.std.specs.Fmt.{signed_decimal};
+ghost use Rattle.base.specs.Sinks.{SinkLaws, Takes};
+
+use crate::short::TooShort;
+
+pub trait Sink {
+    // whether a piece fits, and what holds after it
+    ghost fits: { Self → List ℕ → Bool };
+
+    ghost after: { Self → List ℕ → Self → Type 0 };
+
+    ghost laws: { SinkLaws fits after };
+
+    // All of the bytes or, where they do not fit, none.
+    fn put(&mut self, bytes: &[u8]) -> Result<(), TooShort>
+        ensures { Takes fits after self.old bytes.now result self.new };
+
+    // A number in decimal.
+    fn put_number(&mut self, n: i64) -> Result<(), TooShort>
+        ensures { Takes fits after self.old (signed_decimal n) result self.new };
+}

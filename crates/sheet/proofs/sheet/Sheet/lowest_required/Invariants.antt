@@ -1,9 +1,0 @@
-use Rattle.std.proofs.Common.{◌≡◌, None}
-use Rattle.base.specs.Search.{least}
-use Rattle.sheet.specs.declared.proposal.Reason.TheVariants.{Required}
-use Rattle.sheet.specs.Complete.{admits_by}
-use Rattle.sheet.specs.View.{view}
-use Rattle.sheet.proofs.sheet.Sheet.lowest_required.Given as goal
-
-abbrev pub invariant-loop-rule : goal.invariant-loop-rule
-invariant-loop-rule g l = let v = view g.B.Book.meaning l.self in least (admits_by v.rules v.state l.atom Required) l.rule ≡ None
