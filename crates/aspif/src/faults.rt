@@ -29,6 +29,7 @@ impl From<TextError> for Refusal {
     }
 }
 
+// Written out, since a clause says which error it becomes.
 impl From<TooShort> for TextError {
     ghost from_gives = { λ _ e. e ≡ TextTooShort };
 

@@ -24,7 +24,8 @@ fn put_sign(out: &mut [u8], at: usize, n: i64)
     }
 }
 
-// A number in decimal, at a place of the buffer; answers how many bytes.
+// A number in decimal, at a place of the buffer; answers how many bytes. The buffer and the place are loose, since others
+// than a pen print so too, each digit straight in its place.
 pub fn put_number(out: &mut [u8], at: usize, n: i64) -> Result<usize, TooShort>
     ensures result { result ≡ put_answer (length out.old) at (signed_decimal n) }
     ensures list { out.new ≡ put_into out.old at (signed_decimal n) }

@@ -16,7 +16,7 @@ pub fn item_or<T: Copy>(xs: &[T], at: usize, other: T) -> T
     item(xs, at).unwrap_or(other)
 }
 
-// An item at a place; nothing past the end.
+// An item at a place; nothing past the end. (After `get_mut` the other items are not known.)
 pub fn put<T: Copy>(xs: &mut [T], at: usize, item: T)
     ensures { xs.new ≡ slice_set xs.old at item }
 {

@@ -1,4 +1,5 @@
-// What takes bytes piece by piece.
+// What takes bytes piece by piece. The standard library's `Write` says of no writer how much it still takes, so a text
+// could not be counted and put by the same code.
 ghost use Rattle.std.specs.Prelude.{ℕ, Bool, List};
 ghost use Rattle.std.specs.Fmt.{signed_decimal};
 ghost use Rattle.base.specs.Sinks.{SinkLaws, Takes};
@@ -13,7 +14,7 @@ pub trait Sink {
 
     ghost laws: { SinkLaws fits after };
 
-    // All of the bytes or, where they do not fit, none.
+    // All of the bytes, where they fit.
     fn put(&mut self, bytes: &[u8]) -> Result<(), TooShort>
         ensures { Takes fits after self.old bytes.now result self.new };
 

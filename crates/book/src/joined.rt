@@ -37,6 +37,7 @@ impl<P: Book, Q: Book> JoinedBook<P, Q> {
     }
 }
 
+// The two books have types of their own, so each look-up asks the one or the other in an arm.
 impl<P: Book, Q: Book> Book for JoinedBook<P, Q> {
     ghost meaning = { λ j. joined_rules (P.Book.meaning j.first) (Q.Book.meaning j.second) };
 

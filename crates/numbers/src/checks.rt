@@ -79,6 +79,7 @@ impl<'a> RuleLists<'a> {
         self.due_start(self.starts.len()) == self.integers.len() && self.names.fit(self.atoms)
     }
 
+    // The laws of the call below are proved from this answer.
     fn verdict(&self) -> Result<(), BookError>
         ensures { result ≡ numbers_verdict self.now }
     {

@@ -20,6 +20,7 @@ pub struct NumbersBook<'a> {
 }
 
 impl<'a> NumbersBook<'a> {
+    // The laws of the call below are proved from this answer.
     fn made_of(lists: RuleLists<'a>) -> NumbersBook<'a>
         ensures rules { spelled result.lists ≡ numbers_book lists.entry }
         ensures names { (a : ℕ) → name_in result.lists.names a ≡ numbers_name lists.entry a }

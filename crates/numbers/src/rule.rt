@@ -1,5 +1,5 @@
 // One rule among the integers: where its parts lie, and whether they keep the limits.
-ghost use Rattle.std.specs.Prelude.{◌≡◌, ◌^◌, ◌<◌, length};
+ghost use Rattle.std.specs.Prelude.{◌≡◌, ◌+◌, ◌^◌, ◌<◌, length};
 ghost use Rattle.std.specs.List.{list_all};
 ghost use Rattle.numbers.specs.Numbers.{integer_at, count as counted, kind_from, head_part, body_start, body_part, rule_end, within, is_literal, sound_counts, sound_rule};
 
@@ -23,7 +23,7 @@ fn kind_from(z: i32) -> Kind
 fn is_within(z: i32, low: u32, high: u32) -> bool
     ensures { result ≡ within low high z }
 {
-    u32::try_from(z).is_ok_and(|n| low <= n && n <= high)
+    u32::try_from(z).is_ok_and(|n| (low..=high).contains(&n))
 }
 
 fn is_literal(n: u32, z: i32) -> bool
@@ -53,12 +53,21 @@ impl<'a> RuleAt<'a> {
         kind_from(self.integer(self.start as usize))
     }
 
+    // How many integers a part has whose type stands at a place.
+    fn count_after(&self, at: usize) -> usize
+        requires { at < 2 ^ 34 }
+        ensures value { result ≡ counted (integer_at self.now.integers.now (at + 1)) }
+        ensures bound { result < 2 ^ 31 }
+    {
+        count(self.integer(at + 1))
+    }
+
     pub(crate) fn head(&self) -> &'a [i32]
         ensures part { result.now ≡ head_part self.now.integers.now self.now.start }
         ensures bound { length result.now < 2 ^ 31 }
     {
         let from = self.start as usize;
-        part(self.integers, from + 2, count(self.integer(from + 1)))
+        part(self.integers, from + 2, self.count_after(from))
     }
 
     // Where the body type stands.
@@ -67,7 +76,7 @@ impl<'a> RuleAt<'a> {
         ensures bound { result < 2 ^ 33 }
     {
         let from = self.start as usize;
-        from + 2 + count(self.integer(from + 1))
+        from + 2 + self.count_after(from)
     }
 
     pub(crate) fn body(&self) -> &'a [i32]
@@ -75,7 +84,7 @@ impl<'a> RuleAt<'a> {
         ensures bound { length result.now < 2 ^ 31 }
     {
         let from = self.body_start();
-        part(self.integers, from + 2, count(self.integer(from + 1)))
+        part(self.integers, from + 2, self.count_after(from))
     }
 
     // Where the next rule starts.
@@ -83,7 +92,7 @@ impl<'a> RuleAt<'a> {
         ensures { result ≡ rule_end self.now.integers.now self.now.start }
     {
         let from = self.body_start();
-        from + 2 + count(self.integer(from + 1))
+        from + 2 + self.count_after(from)
     }
 
     fn has_sound_counts(&self) -> bool

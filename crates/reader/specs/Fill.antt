@@ -25,7 +25,7 @@ abbrev pub listed : Result (List Stmt) TextError → List Stmt
 listed (Ok ss) = ss
 listed (Err e) = []
 
--- a pen takes all of the items or, where they do not fit, none
+-- a pen takes all of the items, where they fit
 abbrev pub Puts : {X : Type 0} → Pen X → List X → Result (Unit {0}) TooShort → Pen X → Type 0
 Puts = Takes (λ p xs. has_room (page p) xs) filled
 

@@ -36,6 +36,7 @@ impl Numeral<'_> {
         ensures value { result ≡ read_on 0 self.entry.digits.now }
         ensures bound { result < 10 ^ 9 }
     {
+        // A `fold` was tried: that no turn overflows was not proved.
         let mut size = 0;
         for d in self.digits {
             size = size * 10 + (*d - b'0') as u32;

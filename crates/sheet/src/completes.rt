@@ -26,6 +26,7 @@ impl<'b, B: Book> Sheet<'b, B> {
         self.finish()
     }
 
+    // The laws of the call above are proved from this answer.
     fn finish(&mut self) -> Result<u32, SheetError>
         ensures { (result, view B.meaning self.new) ≡ leaving complete_call (view B.meaning self.old) }
     {

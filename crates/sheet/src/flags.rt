@@ -33,6 +33,7 @@ pub(crate) fn put_assumed(marks: &mut [Mark], assumed: &[bool])
     requires { length marks.old ≡ length assumed.now }
     ensures { marks.new ≡ map mark_assumed assumed.now }
 {
+    // A zip of both lists was tried: what the marks are after it is not known.
     for (atom, mark) in marks.iter_mut().enumerate() {
         *mark = mark_assumed(assumed[atom]);
     }

@@ -20,6 +20,7 @@ impl<'b, B: Book> Sheet<'b, B> {
         self.begin(literals)
     }
 
+    // The laws of the call above are proved from this answer.
     fn begin(&mut self, literals: &[i32]) -> Result<(), SheetError>
         ensures { (result, view B.meaning self.new) ≡ leaving (λ R s. open_call R s literals.now) (view B.meaning self.old) }
     {

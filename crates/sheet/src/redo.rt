@@ -56,6 +56,7 @@ pub(crate) fn redo<B: Book>(
     ensures kept { open_with answer.now assumed.now (take result entries.new) ≡ enter_all (B.meaning book.now) (open_with answer.now assumed.now (take from entries.old)) (drop (from + 1) entries.old) }
 {
     mark_again(marks, assumed, part(entries, 0, from));
+    // Entries move up in the list that is read, so their places are kept by hand.
     let mut to = from;
     for at in from + 1..entries.len() {
         let entry = entries[at];
