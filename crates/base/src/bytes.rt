@@ -1,5 +1,5 @@
 // Numbers in decimal, and items as they are, put at a place of a list of the caller's.
-ghost use Rattle.std.specs.Prelude.{◌≡◌, ◌<◌, ◌≤◌, length};
+ghost use Rattle.std.specs.Prelude.{◌≡◌, ◌+◌, ◌<◌, ◌≤◌, length, nat_lt};
 ghost use Rattle.base.specs.Puts.{put_answer, put_into, with_sign};
 ghost use Rattle.std.specs.Fmt.{signed_decimal};
 
@@ -12,6 +12,13 @@ pub fn number_size(n: i64) -> usize
     ensures bound { result ≤ 21 }
 {
     Buffer::new().format(n).len()
+}
+
+// Whether a list ends before so many items from a place on.
+fn is_too_short<T>(list: &[T], at: usize, count: usize) -> bool
+    ensures { result ≡ nat_lt (length list.now) (at + count) }
+{
+    at > list.len() || list.len() - at < count
 }
 
 // The minus, where the number has one.
@@ -31,7 +38,7 @@ pub fn put_number(out: &mut [u8], at: usize, n: i64) -> Result<usize, TooShort>
     ensures list { out.new ≡ put_into out.old at (signed_decimal n) }
 {
     let size = number_size(n);
-    if at > out.len() || out.len() - at < size {
+    if is_too_short(out, at, size) {
         return Err(TooShort);
     }
     put_sign(out, at, n);
@@ -45,7 +52,7 @@ pub fn put_items<T: Copy>(out: &mut [T], at: usize, items: &[T]) -> Result<usize
     ensures list { out.new ≡ put_into out.old at items.now }
 {
     let count = items.len();
-    if at > out.len() || out.len() - at < count {
+    if is_too_short(out, at, count) {
         return Err(TooShort);
     }
     out[at..at + count].copy_from_slice(items);

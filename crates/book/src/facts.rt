@@ -18,6 +18,7 @@ fn is_sound_fact(atoms: u32, facts: &[u32], i: usize) -> bool
     i < 2048 && 1 <= facts[i] && facts[i] <= atoms
 }
 
+// By its place, since past the limit any fact is faulty.
 fn first_faulty_fact(atoms: u32, facts: &[u32]) -> Option<u32>
     ensures { result ≡ first_faulty_fact atoms facts.now }
 {
@@ -26,9 +27,11 @@ fn first_faulty_fact(atoms: u32, facts: &[u32]) -> Option<u32>
         .map(|i| i as u32)
 }
 
-// The laws of the call below are proved from this answer.
-fn verdict(atoms: u32, facts: &[u32]) -> Result<(), BookError>
-    ensures { result ≡ facts_verdict atoms facts.now }
+// Nothing where each fact is an atom and the limits are kept, or else the first thing that is wrong.
+#[tactic(auto, using(crate::proofs::Facted::facts_faithful))]
+pub fn check_facts(atoms: u32, facts: &[u32]) -> Result<(), BookError>
+    ensures verdict { result ≡ facts_verdict atoms facts.now }
+    ensures faithful { FactsFaithful atoms facts.now }
 {
     if atoms > 1024 {
         return Err(BookError::TooManyAtoms);
@@ -37,14 +40,6 @@ fn verdict(atoms: u32, facts: &[u32]) -> Result<(), BookError>
         Some(fact) => Err(BookError::FaultyRule(fact)),
         None => Ok(()),
     }
-}
-
-// Nothing where each fact is an atom and the limits are kept, or else the first thing that is wrong.
-pub fn check_facts(atoms: u32, facts: &[u32]) -> Result<(), BookError>
-    ensures verdict { result ≡ facts_verdict atoms facts.now }
-    ensures faithful { FactsFaithful atoms facts.now }
-{
-    verdict(atoms, facts)
 }
 
 #[derive(Clone, Copy)]

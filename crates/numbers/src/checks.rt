@@ -65,6 +65,7 @@ impl<'a> RuleLists<'a> {
             && self.rule_from(start).is_sound(self.atoms)
     }
 
+    // By its place, since a rule starts where the one before ends.
     fn first_faulty(&self) -> Option<u32>
         ensures { result ≡ first_faulty self.now }
     {
@@ -79,9 +80,11 @@ impl<'a> RuleLists<'a> {
         self.due_start(self.starts.len()) == self.integers.len() && self.names.fit(self.atoms)
     }
 
-    // The laws of the call below are proved from this answer.
-    fn verdict(&self) -> Result<(), BookError>
-        ensures { result ≡ numbers_verdict self.now }
+    // Nothing where the lists spell out a book, or else the first thing that is wrong with them.
+    #[tactic(auto, using(crate::proofs::Encoded::faithful))]
+    pub fn check(&self) -> Result<(), BookError>
+        ensures verdict { result ≡ numbers_verdict self.now }
+        ensures faithful { Faithful self.now }
     {
         if self.atoms > 1024 {
             return Err(BookError::TooManyAtoms);
@@ -93,13 +96,5 @@ impl<'a> RuleLists<'a> {
             return Err(BookError::FaultyRest(self.starts.len() as u32));
         }
         Ok(())
-    }
-
-    // Nothing where the lists spell out a book, or else the first thing that is wrong with them.
-    pub fn check(&self) -> Result<(), BookError>
-        ensures verdict { result ≡ numbers_verdict self.now }
-        ensures faithful { Faithful self.now }
-    {
-        self.verdict()
     }
 }

@@ -20,10 +20,11 @@ pub struct NumbersBook<'a> {
 }
 
 impl<'a> NumbersBook<'a> {
-    // The laws of the call below are proved from this answer.
-    fn made_of(lists: RuleLists<'a>) -> NumbersBook<'a>
+    // The book that the lists spell out; the empty one where they are not accepted.
+    pub fn new(lists: RuleLists<'a>) -> NumbersBook<'a>
         ensures rules { spelled result.lists ≡ numbers_book lists.entry }
         ensures names { (a : ℕ) → name_in result.lists.names a ≡ numbers_name lists.entry a }
+        ensures decodes { (R : Rules) → Lawful R → Encodes R lists.entry → spelled result.lists ≡ R }
     {
         if lists.check().is_ok() {
             return NumbersBook { lists };
@@ -40,15 +41,6 @@ impl<'a> NumbersBook<'a> {
             names,
         };
         NumbersBook { lists: none }
-    }
-
-    // The book that the lists spell out; the empty one where they are not accepted.
-    pub fn new(lists: RuleLists<'a>) -> NumbersBook<'a>
-        ensures rules { spelled result.lists ≡ numbers_book lists.entry }
-        ensures names { (a : ℕ) → name_in result.lists.names a ≡ numbers_name lists.entry a }
-        ensures decodes { (R : Rules) → Lawful R → Encodes R lists.entry → spelled result.lists ≡ R }
-    {
-        NumbersBook::made_of(lists)
     }
 
     // The rule at a place, if there is one.

@@ -11,7 +11,7 @@ use crate::statement::{Numbers, Output, Rule, Statement};
 use aspif::error::TextError;
 use book::kind::Kind;
 
-// How many bytes stand before the first newline.
+// How many bytes stand before the first newline. Counted as digits are, by the library: there is nothing to share.
 fn line_size(bytes: &[u8]) -> usize
     ensures size { result ≡ prefix_len in_line bytes.now }
     ensures bound { result ≤ length bytes.now }

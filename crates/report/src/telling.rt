@@ -9,13 +9,16 @@ use base::refusal::Refusal;
 use base::short::TooShort;
 use base::sink::Sink;
 
-fn layer_word(layer: Layer) -> &'static [u8]
-    ensures { result.now ≡ word layer }
-{
-    match layer {
-        Layer::Text => b" text",
-        Layer::Book => b" book",
-        Layer::Sheet => b" sheet",
+impl Printed for Layer {
+    ghost text = { word };
+
+    #[tactic(auto, unfolding(crate::specs::Told::word))]
+    fn print<S: Sink>(&self, sink: &mut S) -> Result<(), TooShort> {
+        match self {
+            Layer::Text => sink.put(b" text"),
+            Layer::Book => sink.put(b" book"),
+            Layer::Sheet => sink.put(b" sheet"),
+        }
     }
 }
 
@@ -42,7 +45,7 @@ impl Printed for Fault {
         let refusal = Refusal::from(*self);
         sink.put(b"refusal")?;
         put_numeral(sink, u32::from(refusal.number))?;
-        sink.put(layer_word(self.layer()))?;
+        self.layer().print(sink)?;
         put_places(sink, refusal.first, refusal.second)
     }
 }

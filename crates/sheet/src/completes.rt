@@ -26,7 +26,7 @@ impl<'b, B: Book> Sheet<'b, B> {
         self.finish()
     }
 
-    // The laws of the call above are proved from this answer.
+    // The laws of the call above are proved from this answer, once and not at each place where it returns.
     fn finish(&mut self) -> Result<u32, SheetError>
         ensures { (result, view B.meaning self.new) ≡ leaving complete_call (view B.meaning self.old) }
     {

@@ -20,7 +20,7 @@ impl<'b, B: Book> Sheet<'b, B> {
         self.take(proposal)
     }
 
-    // The laws of the call above are proved from this answer.
+    // The laws of the call above are proved from this answer, once and not at each place where it returns.
     pub(crate) fn take(&mut self, proposal: Proposal) -> Result<(), SheetError>
         ensures { (result, view B.meaning self.new) ≡ leaving (λ R s. enter_call R s proposal) (view B.meaning self.old) }
     {

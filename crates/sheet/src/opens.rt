@@ -20,7 +20,7 @@ impl<'b, B: Book> Sheet<'b, B> {
         self.begin(literals)
     }
 
-    // The laws of the call above are proved from this answer.
+    // The laws of the call above are proved from this answer, once and not at each place where it returns.
     fn begin(&mut self, literals: &[i32]) -> Result<(), SheetError>
         ensures { (result, view B.meaning self.new) ≡ leaving (λ R s. open_call R s literals.now) (view B.meaning self.old) }
     {

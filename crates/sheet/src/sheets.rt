@@ -11,7 +11,7 @@ use crate::judge::Judge;
 use crate::mark::Mark;
 use crate::proposal::Proposal;
 use crate::sheet::Sheet;
-use crate::tests::{is_atom, mark_at, mark_for};
+use crate::tests::{is_atom, mark_at};
 use base::parts::{item, put};
 use book::book::Book;
 use std::alloc::{AllocError, Global};
@@ -80,5 +80,5 @@ impl<'b, B: Book> Sheet<'b, B> {
 pub(crate) fn put_mark(marks: &mut [Mark], proposal: Proposal)
     ensures { marks.new ≡ slice_set marks.old proposal.atom (mark_for (claim proposal.reason)) }
 {
-    put(marks, proposal.atom as usize, mark_for(proposal.reason));
+    put(marks, proposal.atom as usize, Mark::from(proposal.reason));
 }

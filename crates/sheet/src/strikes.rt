@@ -20,7 +20,7 @@ impl<'b, B: Book> Sheet<'b, B> {
         self.take_off(atom)
     }
 
-    // The laws of the call above are proved from this answer.
+    // The laws of the call above are proved from this answer, once and not at each place where it returns.
     fn take_off(&mut self, atom: u32) -> Result<u32, SheetError>
         ensures { (result, view B.meaning self.new) ≡ leaving (λ R s. strike_call R s atom) (view B.meaning self.old) }
     {

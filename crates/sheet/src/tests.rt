@@ -1,11 +1,10 @@
 // Tests of atoms, marks and literals.
 ghost use Rattle.std.specs.Prelude.{◌≡◌, ◌&&◌, nat_le};
-ghost use Rattle.sheet.specs.Marks.{is_unmarked, claim, mark_for};
+ghost use Rattle.sheet.specs.Marks.{is_unmarked};
 ghost use Rattle.sheet.specs.Bodies.{is_positive};
 ghost use Rattle.sheet.specs.Kept.{marking, mark_assumed};
 
 use crate::mark::Mark;
-use crate::proposal::Reason;
 use base::parts::item_or;
 
 pub(crate) fn mark_at(marks: &[Mark], atom: u32) -> Mark
@@ -26,15 +25,7 @@ pub(crate) fn is_unmarked(marks: &[Mark], atom: u32) -> bool
     mark_at(marks, atom) == Mark::Unmarked
 }
 
-pub(crate) fn mark_for(reason: Reason) -> Mark
-    ensures { result ≡ mark_for (claim reason) }
-{
-    match reason {
-        Reason::Support(_) => Mark::True,
-        Reason::Lack | Reason::Required(_) => Mark::False,
-    }
-}
-
+// An assumed atom is false. No From: a bool may as well be what an atom is.
 pub(crate) fn mark_assumed(assumed: bool) -> Mark
     ensures { result ≡ mark_assumed assumed }
 {

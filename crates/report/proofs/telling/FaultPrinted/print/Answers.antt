@@ -17,13 +17,13 @@ returns-in_err-put_numeral g c =
     takes_then _ _ g.S.Sink.laws opening _ _ refl (search rules) c.put.ensures
     (takes_refused _ _ g.S.Sink.laws (number R.number) _ _ refl (search rules) (search rules) told)
 
-pub returns-in_err-put-2 : goal.returns-in_err-put-2
+pub returns-in_err-print : goal.returns-in_err-print
 unfolding opening
-returns-in_err-put-2 g c =
+returns-in_err-print g c =
     let f = c.args.self.now in
     let R = refusal_of f in
     let told : Takes g.S.Sink.fits g.S.Sink.after c.put.new.self (number R.number) c.put_numeral.result c.put_numeral.new.sink = search rules in
-    let layer : Takes g.S.Sink.fits g.S.Sink.after c.put_numeral.new.sink (word (layer_of f)) c.put-2.result c.put-2.new.self = search rules in
+    let layer : Takes g.S.Sink.fits g.S.Sink.after c.put_numeral.new.sink (word (layer_of f)) c.print.result c.print.new.sink = search rules in
     takes_then _ _ g.S.Sink.laws opening _ _ refl (search rules) c.put.ensures
     (takes_then _ _ g.S.Sink.laws (number R.number) _ _ refl (search rules) told
     (takes_refused _ _ g.S.Sink.laws (word (layer_of f)) (places_of R.first R.second) _ refl (search rules) (search rules) layer))
@@ -34,8 +34,8 @@ returns g c =
     let f = c.args.self.now in
     let R = refusal_of f in
     let told : Takes g.S.Sink.fits g.S.Sink.after c.put.new.self (number R.number) c.put_numeral.result c.put_numeral.new.sink = search rules in
-    let layer : Takes g.S.Sink.fits g.S.Sink.after c.put_numeral.new.sink (word (layer_of f)) c.put-2.result c.put-2.new.self = search rules in
-    let places : Takes g.S.Sink.fits g.S.Sink.after c.put-2.new.self (places_of R.first R.second) c.put_places.result c.put_places.new.sink = search rules in
+    let layer : Takes g.S.Sink.fits g.S.Sink.after c.put_numeral.new.sink (word (layer_of f)) c.print.result c.print.new.sink = search rules in
+    let places : Takes g.S.Sink.fits g.S.Sink.after c.print.new.sink (places_of R.first R.second) c.put_places.result c.put_places.new.sink = search rules in
     takes_then _ _ g.S.Sink.laws opening _ _ refl (search rules) c.put.ensures
     (takes_then _ _ g.S.Sink.laws (number R.number) _ _ refl (search rules) told
     (takes_then _ _ g.S.Sink.laws (word (layer_of f)) (places_of R.first R.second) _ refl (search rules) layer places))
