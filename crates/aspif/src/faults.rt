@@ -33,7 +33,7 @@ impl From<TextError> for Refusal {
 impl From<TooShort> for TextError {
     ghost from_gives = { λ _ e. e ≡ TextTooShort };
 
-    fn from(_short: TooShort) -> TextError {
-        TextError::TooShort
+    fn from(_short: TooShort) -> Self {
+        Self::TooShort
     }
 }

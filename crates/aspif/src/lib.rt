@@ -5,4 +5,5 @@ pub mod error;
 pub mod faults;
 mod integers;
 mod puts;
+mod rules;
 pub mod writer;

@@ -1,7 +1,8 @@
 -- The steps of a loop that looks for the first number that passes a test, and what it found.
-use Rattle.std.proofs.Common.{◌≡◌, ℕ, zero, suc, ◌<◌, ◌≤◌, Bool, true, false, cond, List, [], ◌∷◌, Some, None, Option, sym, refl, ap, ◌∙◌, subst, inl, inr, arith}
+use Rattle.std.proofs.Common.{◌≡◌, ℕ, zero, suc, ◌+◌, ◌<◌, ◌≤◌, Bool, true, false, ◌||◌, cond, List, [], ◌∷◌, ◌++◌, length, Some, None, Option, is_some, sym, refl, ap, ◌∙◌, subst, inl, inr, add-zero, zero-add, arith}
 use Rattle.std.proofs.lemmas.Bool.{cases_eq, cases_lt, and_parts, and_from}
-use Rattle.std.specs.List.{AllByRecursion as Each, list_all}
+use Rattle.std.specs.List.{AllByRecursion as Each, list_all, list_any, range_with_len, slice_get}
+use Rattle.std.proofs.lemmas.List.Folds.{list_any-append}
 use Rattle.base.specs.Search.{least, or_else}
 
 -- the number n, if it passes
@@ -36,6 +37,33 @@ pub none_found : (p : ℕ → Bool) (n : ℕ) → ((i : ℕ) → i < n → p i �
 none_found p zero h = refl
 none_found p (suc n) h =
     ap (λ o. or_else o (last (p n) n)) (none_found p n (λ i l. h i (omega arith))) ∙ ap (λ b. last b n) (h n (omega arith))
+
+range_more : (k n : ℕ) → range_with_len k (suc n) ≡ range_with_len k n ++ (k + n) ∷ []
+range_more k zero = simp add-zero
+range_more k (suc n) = let next : k + 1 + n ≡ k + suc n = omega arith in ap (k ∷◌) (range_more (k + 1) n ∙ ap (λ j. range_with_len (k + 1) n ++ j ∷ []) next)
+
+found_either : (n : ℕ) (o : Option ℕ) (b : Bool) → is_some (or_else o (last b n)) ≡ (is_some o || (b || false))
+found_either n None true = refl
+found_either n None false = refl
+found_either n (Some k) b = refl
+
+-- something is found where one of the numbers passes
+some_least : (q : ℕ → Bool) (n : ℕ) → is_some (least q n) ≡ list_any q (range_with_len 0 n)
+some_least q zero = refl
+some_least q (suc n) =
+    found_either n (least q n) (q n) ∙ ap (λ b. b || (q n || false)) (some_least q n) ∙ sym (list_any-append q (range_with_len 0 n) (n ∷ [])) ∙ ap (list_any q) (sym (range_more 0 n ∙ simp zero-add))
+
+-- of the places of a list, one passes where an element does
+module _ {X : Type 0} (p : X → Bool) where
+  any_above : (q : ℕ → Bool) (k : ℕ) (xs : List X) → ((i : ℕ) (x : X) → Some x ≡ slice_get xs i → q (k + i) ≡ p x) → list_any q (range_with_len k (length xs)) ≡ list_any p xs
+  any_above q k [] h = refl
+  any_above q k (x ∷ xs) h =
+      let here : q k ≡ p x = rw add-zero at (h 0 x refl) in
+      let rest = λ (i : ℕ) (y : X) (e : Some y ≡ slice_get xs i). let next : k + 1 + i ≡ k + suc i = omega arith in ap q next ∙ h (suc i) y e in
+      ap (λ b. b || list_any q (range_with_len (k + 1) (length xs))) here ∙ ap (p x ||◌) (any_above q (k + 1) xs rest)
+
+  pub some_place : (q : ℕ → Bool) (xs : List X) → ((i : ℕ) (x : X) → Some x ≡ slice_get xs i → q i ≡ p x) → is_some (least q (length xs)) ≡ list_any p xs
+  some_place q xs h = some_least q (length xs) ∙ any_above q 0 xs (λ i x e. ap q (zero-add i) ∙ h i x e)
 
 -- none that passes stands below what is found
 least_le_by : (p : ℕ → Bool) (m n x : ℕ) (o : Option ℕ) (b : Bool) → p m ≡ true → least p n ≡ o → p n ≡ b → ((y : ℕ) → Some y ≡ o → y ≤ m) → Some x ≡ or_else o (last b n) → x ≤ m

@@ -1,3 +1,4 @@
+pub mod Closures
 pub mod Pens
 pub mod PensLawful
 pub mod Printed

@@ -21,10 +21,8 @@ pub fn printed_size<P: Printed>(piece: &P, most: usize) -> Option<usize>
     ensures { result ≡ size_within (P.text piece.now) most }
 {
     let mut tally = Tally { size: 0, most };
-    match piece.print(&mut tally) {
-        Ok(()) => Some(tally.size),
-        Err(_) => None,
-    }
+    piece.print(&mut tally).ok()?;
+    Some(tally.size)
 }
 
 // The text from the front of the buffer on or, where it does not fit, nothing; answers how many bytes.

@@ -1,7 +1,8 @@
 -- What a book that keeps the limits can answer.
-use Rattle.std.proofs.Common.{◌≡◌, ℕ, zero, suc, ◌≤◌, List, [], ◌∷◌, length, Some, None, Option, subst, arith}
+use Rattle.std.proofs.Common.{◌≡◌, ℕ, zero, suc, ◌≤◌, List, [], ◌∷◌, length, ℤ, FitsSigned, w32, Some, None, Option, subst, arith}
 use Rattle.std.specs.List.{AllByRecursion as Each, slice_get}
-use Rattle.book.specs.Rules.{Rule, Rules, Lawful, LawfulRule, Atom, head_limit, rule_at, head_size, body_size, head_atom}
+use Rattle.std.proofs.lemmas.Int.{fits_signed_from_abs}
+use Rattle.book.specs.Rules.{Rule, Rules, Lawful, LawfulRule, Atom, Literal, head_limit, rule_at, head_size, body_size, head_atom, body_literal}
 use Rattle.book.specs.declared.kind.Kind.{Kind}
 use Rattle.book.specs.declared.kind.Kind.TheVariants.{Plain, Choice}
 
@@ -10,7 +11,7 @@ all_nth P [] i x h e = let z : ◌≡◌ {A = ℕ} 0 1 = cc in absurd (omega ari
 all_nth P (y ∷ xs) zero x h e = let s : y ≡ x = cc in subst P s h.0
 all_nth P (y ∷ xs) (suc i) x h e = all_nth P xs i x h.1 e
 
-limit_255 : (k : Kind) → head_limit k ≤ 255
+pub limit_255 : (k : Kind) → head_limit k ≤ 255
 limit_255 Plain = omega arith
 limit_255 Choice = omega arith
 
@@ -36,6 +37,11 @@ atom_in : (n : ℕ) (o : Option Rule) (at a : ℕ) → LawfulIn n o → Some a �
 atom_in n None at a l e = let z : ◌≡◌ {A = ℕ} 0 1 = cc in absurd (omega arith)
 atom_in n (Some ρ) at a l e = all_nth (Atom n) ρ.head at a l.heads e
 
+-- a literal of such a rule is one of the book
+literal_in : (n : ℕ) (o : Option Rule) (at : ℕ) (z : ℤ) → LawfulIn n o → Some z ≡ body_literal o at → Literal n z
+literal_in n None at z l e = let s : ◌≡◌ {A = ℕ} 0 1 = cc in absurd (omega arith)
+literal_in n (Some ρ) at z l e = all_nth (Literal n) ρ.body at z l.literals e
+
 module _ (R : Rules) (l : Lawful R) (rule : ℕ) where
   here : LawfulIn R.atoms (rule_at R rule)
   here = lawful_in R.atoms R.rules rule l.each
@@ -48,3 +54,7 @@ module _ (R : Rules) (l : Lawful R) (rule : ℕ) where
 
   pub atom_1024 : (at a : ℕ) → Some a ≡ head_atom (rule_at R rule) at → a ≤ 1024
   atom_1024 at a e = omega (arith, atom_in R.atoms (rule_at R rule) at a here e, l.few_atoms)
+
+  -- a literal is a number of 32 bits
+  pub literal_fits : (at : ℕ) (z : ℤ) → Some z ≡ body_literal (rule_at R rule) at → FitsSigned w32 z
+  literal_fits at z e = fits_signed_from_abs w32 z (omega (arith, literal_in R.atoms (rule_at R rule) at z here e, l.few_atoms))

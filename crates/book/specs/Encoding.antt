@@ -1,12 +1,18 @@
 -- Rules as integers: those of a rule's line in a program text, without the 1 that it begins with.
-use Rattle.std.specs.Prelude.{ℕ, ◌+◌, List, [], ◌∷◌, ◌++◌, map, length, ℤ, pos}
+use Rattle.std.specs.Prelude.{ℕ, ◌+◌, cond, List, [], ◌∷◌, ◌++◌, map, length, ℤ, pos, negsuc, Ok, Err, Result, ◌==◌}
 use Rattle.book.specs.Rules.{Rule}
 use Rattle.book.specs.declared.kind.Kind.{Kind}
 use Rattle.book.specs.declared.kind.Kind.TheVariants.{Plain, Choice}
+use Rattle.book.specs.declared.kind.NoSuchKind.{NoSuchKind}
 
 abbrev pub head_type : Kind → ℤ
 head_type Plain = pos 0
 head_type Choice = pos 1
+
+-- the kind that a number tells, if any does
+abbrev pub kind_told : ℤ → Result Kind NoSuchKind
+kind_told (pos n) = cond (n == 0) (Ok Plain) (cond (n == 1) (Ok Choice) (Err (record {})))
+kind_told (negsuc n) = Err (record {})
 
 -- head type, head count, head atoms, body type 0, body count, literals
 abbrev pub encode_rule : Rule → List ℤ

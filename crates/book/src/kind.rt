@@ -1,5 +1,5 @@
 ghost use Rattle.std.specs.Prelude.{◌≡◌};
-ghost use Rattle.book.specs.Encoding.{head_type};
+ghost use Rattle.book.specs.Encoding.{head_type, kind_told};
 ghost use Rattle.book.specs.Rules.{head_limit};
 
 // A plain rule derives its head atom, and without one is a constraint; a choice rule lets its head atoms be chosen.
@@ -29,6 +29,25 @@ impl From<Kind> for i32 {
         match kind {
             Kind::Plain => 0,
             Kind::Choice => 1,
+        }
+    }
+}
+
+// No kind is told by this number.
+#[derive(Clone, Copy, Debug, PartialEq, Eq)]
+pub struct NoSuchKind;
+
+// The kind that a number tells.
+impl TryFrom<i32> for Kind {
+    type Error = NoSuchKind;
+
+    ghost try_from_gives = { λ n r. r ≡ kind_told n };
+
+    fn try_from(n: i32) -> Result<Kind, NoSuchKind> {
+        match n {
+            0 => Ok(Kind::Plain),
+            1 => Ok(Kind::Choice),
+            _ => Err(NoSuchKind),
         }
     }
 }

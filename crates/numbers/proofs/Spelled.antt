@@ -1,15 +1,16 @@
 -- Accepted lists are the encoding of the rules that they spell out.
-use Rattle.std.proofs.Common.{◌≡◌, ℕ, zero, suc, ◌+◌, ◌≤◌, true, false, not, ◌&&◌, eqb, leb, List, [], ◌∷◌, ◌++◌, map, length, get_or, take, drop, ℤ, pos, negsuc, nat_abs, is_some, is_ok, Some, None, Ok, Option, sym, refl, ap, ◌∙◌, subst, append_assoc, arith, length-append, length-drop, drop-cons, drop-drop}
+use Rattle.std.proofs.Common.{◌≡◌, ℕ, zero, suc, ◌+◌, ◌≤◌, true, false, not, ◌&&◌, eqb, leb, List, [], ◌∷◌, ◌++◌, map, length, get_or, slice_index, take, drop, ℤ, pos, negsuc, nat_abs, is_some, is_ok, Some, None, Ok, Option, sym, refl, ap, ◌∙◌, subst, append_assoc, arith, length-append, length-drop, drop-cons, drop-drop}
 use lib.ListN.{length-map}
 use Rattle.std.proofs.lemmas.List.{drop_all, drop_more, append-nil, take-append-drop, length-take-le}
 use Rattle.std.proofs.lemmas.Bool.{and_parts, cond-true, leb-true, eqb-true, not-true}
+use Rattle.std.proofs.lemmas.Slice.Zip.{length-zip}
 use Rattle.std.proofs.lemmas.Bool.Decides.{nat_tests}
-use Rattle.std.specs.List.{list_all}
+use Rattle.std.specs.List.{slice_get, list_all, list_any, zip}
 use Rattle.base.specs.Search.{least}
-use Rattle.base.proofs.Search.{none_passes}
+use Rattle.base.proofs.Search.{none_passes, some_place}
 use Rattle.book.specs.Rules.{no_rules}
 use Rattle.book.specs.Encoding.{head_type, encode_rule, encode, starts_from}
-use Rattle.numbers.specs.Numbers.{integer_at, count, kind_from, head_count, head_part, body_start, body_count, body_part, rule_end, rule_from, within, due_start, outside, names_fit, first_faulty, numbers_verdict, spelled, numbers_book}
+use Rattle.numbers.specs.Numbers.{integer_at, count, kind_from, head_count, head_part, body_start, body_count, body_part, rule_end, rule_from, within, due_start, reaches_past, outside, names_fit, first_faulty, numbers_verdict, spelled, numbers_book}
 use Rattle.numbers.specs.NumbersLawful.{SoundRule, each_placed, accepted_parts}
 use Rattle.numbers.specs.NumbersLaw.{NamesInside, Encodes}
 use Rattle.numbers.specs.declared.lists.Names.{Names}
@@ -139,3 +140,18 @@ accepted_encodes L ok =
       starts = sym (starts_back L a.none (length ss) 0 (omega arith));
       names = names_inside L.atoms L.names r.1;
     })
+
+-- two lists side by side, at a place
+zip_there : (xs ys : List ℕ) (i : ℕ) (p : ℕ × ℕ) → Some p ≡ slice_get (zip xs ys) i → (slice_index xs i ≡ p.0) × (slice_index ys i ≡ p.1)
+zip_there [] ys i p e = let z : ◌≡◌ {A = ℕ} 0 1 = cc in absurd (omega arith)
+zip_there (x ∷ xs) [] i p e = let z : ◌≡◌ {A = ℕ} 0 1 = cc in absurd (omega arith)
+zip_there (x ∷ xs) (y ∷ ys) zero p e = let same : (x, y) ≡ p = cc in (ap (λ q. q.0) same, ap (λ q. q.1) same)
+zip_there (x ∷ xs) (y ∷ ys) (suc i) p e = zip_there xs ys i p e
+
+-- looking at the names one by one, as at two lists side by side
+pub any_name : (N : Names) → length N.starts.now ≡ length N.lengths.now → list_any (λ p. reaches_past (length N.text.now) p.0 p.1) (zip N.starts.now N.lengths.now) ≡ is_some (least (outside N) (length N.starts.now))
+any_name N same =
+    let pairs = zip N.starts.now N.lengths.now in
+    let as_many : length pairs ≡ length N.starts.now = omega (arith, length-zip N.starts.now N.lengths.now, same) in
+    let there = λ (i : ℕ) (p : ℕ × ℕ) (e : Some p ≡ slice_get pairs i). let t = zip_there N.starts.now N.lengths.now i p e in ap (λ s. reaches_past (length N.text.now) s (slice_index N.lengths.now i)) t.0 ∙ ap (reaches_past (length N.text.now) p.0) t.1 in
+    sym (some_place (λ p. reaches_past (length N.text.now) p.0 p.1) (outside N) pairs there) ∙ ap (λ n. is_some (least (outside N) n)) as_many

@@ -82,8 +82,11 @@ sound_at L i =
     && sound_rule L.atoms L.integers.now (slice_index L.starts.now i)
 
 -- a name that is not absent reaches past the end of the text
+abbrev pub reaches_past : ℕ → ℕ → ℕ → Bool
+reaches_past size start len = nat_lt 0 len && nat_lt size (start + len)
+
 abbrev pub outside : Names → ℕ → Bool
-outside N i = nat_lt 0 (slice_index N.lengths.now i) && nat_lt (length N.text.now) (slice_index N.starts.now i + slice_index N.lengths.now i)
+outside N i = reaches_past (length N.text.now) (slice_index N.starts.now i) (slice_index N.lengths.now i)
 
 abbrev pub names_fit : ℕ → Names → Bool
 names_fit n N = (length N.starts.now == n && length N.lengths.now == n) && not (is_some (least (outside N) n))

@@ -2,26 +2,25 @@
 ghost use Rattle.std.specs.Prelude.{◌≡◌, ◌<◌, ◌≤◌, length, is_some};
 ghost use Rattle.base.specs.Search.{least};
 ghost use Rattle.numbers.specs.NumbersLaw.{Faithful};
-ghost use Rattle.numbers.specs.Numbers.{due_start, sound_at, first_faulty, outside, names_fit, rest_fits, numbers_verdict};
+ghost use Rattle.numbers.specs.Numbers.{due_start, sound_at, first_faulty, reaches_past, outside, names_fit, rest_fits, numbers_verdict};
 
 use crate::lists::{Names, RuleLists};
 use crate::rule::RuleAt;
 use book::error::BookError;
 
 impl Names<'_> {
-    fn is_outside(&self, i: usize) -> bool
-        requires { (i < length self.now.starts.now) × (i < length self.now.lengths.now) }
-        ensures { result ≡ outside self.now i }
+    fn is_outside(&self, start: u32, len: u32) -> bool
+        ensures { result ≡ reaches_past (length self.now.text.now) start len }
     {
-        let len = self.lengths[i] as usize;
-        len > 0 && self.text.len() < self.starts[i] as usize + len
+        len > 0 && self.text.len() < start as usize + len as usize
     }
 
     fn any_outside(&self) -> bool
         requires { length self.now.starts.now ≡ length self.now.lengths.now }
         ensures { result ≡ is_some (least (outside self.now) (length self.now.starts.now)) }
     {
-        (0..self.starts.len()).any(|i| self.is_outside(i))
+        let mut names = self.starts.iter().zip(self.lengths);
+        names.any(|(start, len)| self.is_outside(*start, *len))
     }
 
     fn fit(&self, atoms: u32) -> bool

@@ -22,7 +22,7 @@ use Rattle.reader.specs.Program.{lines_of, rules_of, atoms_of, sizes_of, Fits, P
 use Rattle.reader.specs.Fill.{atom_named, name_place, name_size, NameLists, both, named_by, with_name, with_names, listed}
 use Rattle.reader.specs.Held.{Held, held_after, has_room_in}
 use Rattle.reader.specs.Read.{statements_of, room_tested, read_answer, after_read, unnamed}
-use Rattle.reader.specs.ReadLaw.{integers_together, starts_together, names_together, first_name, Fronts, BookOf, FillsTheBook}
+use Rattle.reader.specs.ReadLaw.{held_together, first_name, Fronts, BookOf, FillsTheBook}
 use Rattle.reader.specs.declared.pieces.Counts.{Counts}
 use Rattle.reader.proofs.NamesGiven.{shown, Told, names_told, none_named, all_in_text}
 use Rattle.reader.proofs.Programs.{reads_exactly_programs}
@@ -138,23 +138,23 @@ module _ (text : List ℕ) (ss : List Stmt) (p : Program text ss) (places length
 
 -- The lists as a book.
 
-module _ (text : List ℕ) (ss : List Stmt) (p : Program text ss) (integers : List ℤ) (starts places lengths : List ℕ) (assumed : ℕ) (room : Roomy (sizes_of ss) (length integers) (length starts) (length places) (length lengths) assumed) (L : RuleLists) (f : Fronts (sizes_of ss) text (integers_together ss integers) (starts_together ss starts) (names_together ss places lengths).starts (names_together ss places lengths).lengths L) where
+module _ (text : List ℕ) (ss : List Stmt) (p : Program text ss) (old : Held) (room : Roomy (sizes_of ss) (length old.integers) (length old.starts) (length old.places) (length old.lengths) (length old.assumed)) (L : RuleLists) (f : Fronts (sizes_of ss) text (held_together ss old) L) where
   encodes : Encodes (rules_book ss) L
   encodes =
       let n = atoms_of ss in
-      let N = after text ss p places lengths room.for_places room.for_lengths in
-      let long = starts_wide text ss p places lengths room.for_places room.for_lengths in
-      let wide = lengths_wide text ss p places lengths room.for_places room.for_lengths in
+      let N = after text ss p old.places old.lengths room.for_places room.for_lengths in
+      let long = starts_wide text ss p old.places old.lengths room.for_places room.for_lengths in
+      let wide = lengths_wide text ss p old.places old.lengths room.for_places room.for_lengths in
       let start : (i : ℕ) → i < n → get_or L.names.starts.now i 0 ≡ get_or N.starts i 0 = λ i h. ap (λ q. get_or q i 0) f.name_starts ∙ get_or-take n N.starts i 0 h in
       let size : (i : ℕ) → i < n → get_or L.names.lengths.now i 0 ≡ get_or N.lengths i 0 = λ i h. ap (λ q. get_or q i 0) f.name_lengths ∙ get_or-take n N.lengths i 0 h in
       record {
         atoms = f.all_atoms;
-        integers = f.rule_integers ∙ front integers (encode (rules_of ss)) (length (encode (rules_of ss))) refl room.for_integers;
-        starts = f.rule_starts ∙ front starts (starts_from 0 (rules_of ss)) (length (rules_of ss)) (sym (starts_length 0 (rules_of ss))) room.for_starts;
+        integers = f.rule_integers ∙ front old.integers (encode (rules_of ss)) (length (encode (rules_of ss))) refl room.for_integers;
+        starts = f.rule_starts ∙ front old.starts (starts_from 0 (rules_of ss)) (length (rules_of ss)) (sym (starts_length 0 (rules_of ss))) room.for_starts;
         names = subst (λ k. NamesInside k L.names) (sym f.all_atoms) (record {
           starts = ap length f.name_starts ∙ length-take-le n N.starts long;
           lengths = ap length f.name_lengths ∙ length-take-le n N.lengths wide;
-          inside = λ i h some. omega (arith, start i h, size i h, ap length f.name_text, name_inside text ss p places lengths room.for_places room.for_lengths i h (omega (arith, size i h)));
+          inside = λ i h some. omega (arith, start i h, size i h, ap length f.name_text, name_inside text ss p old.places old.lengths room.for_places room.for_lengths i h (omega (arith, size i h)));
         });
       }
 
@@ -164,16 +164,16 @@ module _ (text : List ℕ) (ss : List Stmt) (p : Program text ss) (integers : Li
   name_is : (i : ℕ) → name_in L.names (suc i) ≡ first_name (suc i) ss
   name_is i =
       let n = atoms_of ss in
-      let N = after text ss p places lengths room.for_places room.for_lengths in
+      let N = after text ss p old.places old.lengths room.for_places room.for_lengths in
       let size = ap (λ q. get_or q i 0) f.name_lengths in
       elim (cases_lt i n) [
         | inl h ↦
             ap (λ k. cond (ltb 0 k) (Some (take k (drop (get_or L.names.starts.now i 0) L.names.text.now))) None) (size ∙ get_or-take n N.lengths i 0 h)
             ∙ ap (λ k. cond (ltb 0 (get_or N.lengths i 0)) (Some (take (get_or N.lengths i 0) (drop k L.names.text.now))) None) (ap (λ q. get_or q i 0) f.name_starts ∙ get_or-take n N.starts i 0 h)
             ∙ ap (λ t. cond (ltb 0 (get_or N.lengths i 0)) (Some (take (get_or N.lengths i 0) (drop (get_or N.starts i 0) t))) None) f.name_text
-            ∙ first_shown text ss p places lengths room.for_places room.for_lengths i h
+            ∙ first_shown text ss p old.places old.lengths room.for_places room.for_lengths i h
         | inr past ↦
-            let none = size ∙ get_or_past (take n N.lengths) i 0 (omega (arith, length-take-le n N.lengths (lengths_wide text ss p places lengths room.for_places room.for_lengths))) in
+            let none = size ∙ get_or_past (take n N.lengths) i 0 (omega (arith, length-take-le n N.lengths (lengths_wide text ss p old.places old.lengths room.for_places room.for_lengths))) in
             cond-false (ltb 0 (get_or L.names.lengths.now i 0)) _ _ (ap (ltb 0) none) ∙ sym (none_named (suc i) ss (omega arith))
       ]
 
@@ -209,23 +209,21 @@ answered_by text room C (Err x) e h = never h
 answered : (text : List ℕ) (room : Counts → Bool) (C : Counts) → read_answer text room ≡ Ok C → Answered text room C (listed (statements_of text))
 answered text room C h = answered_by text room C (statements_of text) refl (sym ((said_together text).answer room) ∙ h)
 
+held_is : (text : List ℕ) (ss : List Stmt) (old : Held) → held_after ss old ≡ held_together ss old
+held_is text ss old =
+    let together = said_together text in
+    let integers = together.integers ss old.integers in
+    let starts = together.starts ss old.starts in
+    let names = together.names ss old.places old.lengths in
+    let assumed = together.assumed ss old.assumed in
+    cc
+
 -- with the lists as they are found afterwards
-pub found_book : (text : List ℕ) (old : Held) (r : Result Counts TextError) → r ≡ read_answer text (has_room_in old) → (new : Held) → new ≡ after_read r (held_after (listed (statements_of text)) old) old → FillsTheBook r text new.integers new.starts new.places new.lengths
+pub found_book : (text : List ℕ) (old : Held) (r : Result Counts TextError) → r ≡ read_answer text (has_room_in old) → (new : Held) → new ≡ after_read r (held_after (listed (statements_of text)) old) old → FillsTheBook r text new
 found_book text old (Ok D) e new found C L h f =
     let ss = listed (statements_of text) in
     let same : D ≡ C = cc in
     let a = answered text (has_room_in old) C (sym e ∙ ap Ok same) in
-    let together = said_together text in
-    let names = together.names ss old.places old.lengths in
-    let fronts : Fronts C text (integers_together ss old.integers) (starts_together ss old.starts) (names_together ss old.places old.lengths).starts (names_together ss old.places old.lengths).lengths L = record {
-      all_atoms = f.all_atoms;
-      rule_integers = f.rule_integers ∙ ap (take C.integers) (ap (λ (H : Held). H.integers) found ∙ together.integers ss old.integers);
-      rule_starts = f.rule_starts ∙ ap (take C.rules) (ap (λ (H : Held). H.starts) found ∙ together.starts ss old.starts);
-      name_text = f.name_text;
-      name_starts = f.name_starts ∙ ap (take C.atoms) (ap (λ (H : Held). H.places) found ∙ ap (λ (N : NameLists). N.starts) names);
-      name_lengths = f.name_lengths ∙ ap (take C.atoms) (ap (λ (H : Held). H.lengths) found ∙ ap (λ (N : NameLists). N.lengths) names);
-    } in
-    book_of_lem text ss ((reads_exactly_programs text).only_programs_are_read ss a.saying) old.integers old.starts old.places old.lengths (length old.assumed)
-    (roomy (sizes_of ss) _ _ _ _ _ (ap (has_room_in old) a.sizes ∙ a.fits))
-    L (subst (λ E. Fronts E text (integers_together ss old.integers) (starts_together ss old.starts) (names_together ss old.places old.lengths).starts (names_together ss old.places old.lengths).lengths L) (sym a.sizes) fronts)
+    let fronts = subst (λ H. Fronts C text H L) (found ∙ held_is text ss old) f in
+    book_of_lem text ss ((reads_exactly_programs text).only_programs_are_read ss a.saying) old (roomy (sizes_of ss) _ _ _ _ _ (ap (has_room_in old) a.sizes ∙ a.fits)) L (subst (λ E. Fronts E text (held_together ss old) L) (sym a.sizes) fronts)
 found_book text old (Err x) e new found C L h f = never h

@@ -10,7 +10,10 @@ use Rattle.reader.specs.Statements.{Stmt}
 use Rattle.reader.specs.Read.{EveryTextHasItsVerdict}
 use Rattle.reader.specs.Scan.{nothing, with_one, keeps, before as then, list_by, statements_from}
 use Rattle.reader.specs.declared.pieces.Counts.{Counts}
-use Rattle.reader.specs.Lines.{Line, ended, said, counted_at, head_judged, head_type_at, body_judged, body_type_at, rule_at, name_end_at, output_at, assumption_at, rest_of, skipped_at, passed_over, by_kind, line_at}
+use Rattle.book.specs.Encoding.{kind_told}
+use Rattle.book.specs.declared.kind.Kind.{Kind}
+use Rattle.book.specs.declared.kind.NoSuchKind.{NoSuchKind}
+use Rattle.reader.specs.Lines.{Line, ended, said, counted_at, headed_by, head_judged, head_type_at, body_judged, body_type_at, rule_at, name_end_at, output_at, assumption_at, rest_of, skipped_at, passed_over, by_kind, line_at}
 use Rattle.reader.specs.declared.pieces.After.{After}
 use Rattle.reader.specs.declared.pieces.After.TheVariants.{Space, ByKind}
 use Rattle.reader.specs.declared.pieces.Count.{Count}
@@ -60,13 +63,13 @@ counted_after : (c : Count) (i : Items) (text : List ℕ) (at : ℕ) → IfOk (c
 unfolding counted_at
 counted_after c i text at = then_made (λ m. at ≤ m.next) (λ w. at ≤ w.next) (count_at c text at) _ (count_after c text at) (λ m h. later i m.count text at m.next h (row_after i m.count text m.next))
 
-head_by : (at n : ℕ) (z : ℤ) (next : ℕ) → at ≤ next → IfOk (head_judged n (record { value = z; ending = 0; next = next })) (λ m. at ≤ m.next)
-head_by at n (pos m) next h = cond_both (eqb m 0) _ _ (λ r. IfOk r (λ k. at ≤ k.next)) (λ _. h) (λ _. cond_both (eqb m 1) _ _ (λ r. IfOk r (λ k. at ≤ k.next)) (λ _. h) (λ _. tt))
-head_by at n (negsuc m) next h = tt
+head_by : (at n next : ℕ) (r : Result Kind NoSuchKind) → at ≤ next → IfOk (headed_by n next r) (λ m. at ≤ m.next)
+head_by at n next (Ok k) h = h
+head_by at n next (Err e) h = tt
 
 head_after : (text : List ℕ) (at : ℕ) → IfOk (head_type_at text at) (λ m. at ≤ m.next)
 unfolding head_type_at
-head_after text at = then_made (AfterPlace at) (λ m. at ≤ m.next) (field_at Space text at) (head_judged at) (field_after Space text at) (λ f h. head_by at at f.value f.next (omega arith))
+head_after text at = then_made (AfterPlace at) (λ m. at ≤ m.next) (field_at Space text at) (head_judged at) (field_after Space text at) (λ f h. head_by at at f.next (kind_told f.value) (omega arith))
 
 body_by : (at n : ℕ) (z : ℤ) (next : ℕ) → at ≤ next → IfOk (body_judged n (record { value = z; ending = 0; next = next })) (λ m. at ≤ m)
 body_by at n (pos m) next h = cond_both (eqb m 0) _ _ (λ r. IfOk r (λ k. at ≤ k)) (λ _. h) (λ _. cond_both (eqb m 1) (Err _) (Err _) (λ r. IfOk r (λ k. at ≤ k)) (λ _. tt) (λ _. tt))

@@ -1,18 +1,19 @@
 -- Counts and types are read at a place exactly where they are written there.
-use Rattle.std.proofs.Common.{◌≡◌, ℕ, zero, suc, ◌+◌, ◌^◌, ◌<◌, ◌≤◌, true, eqb, ltb, List, ◌∷◌, ◌++◌, length, drop, ℤ, pos, negsuc, IfOk, Ok, Err, decimal, sym, refl, ap, ◌∙◌, arith}
+use Rattle.std.proofs.Common.{◌≡◌, ℕ, zero, suc, ◌+◌, ◌^◌, ◌<◌, ◌≤◌, Bool, true, false, cond, eqb, ltb, List, ◌∷◌, ◌++◌, length, drop, ℤ, pos, negsuc, IfOk, Ok, Err, Result, decimal, sym, refl, ap, ◌∙◌, arith}
 use Rattle.std.specs.Fmt.{signed_decimal}
 use Rattle.std.proofs.lemmas.Bool.{cond-false, cond_both, le-ltb, ltb-false, eqb-true}
 use Rattle.std.proofs.lemmas.Result.{IfOk-weaker}
 use Rattle.std.proofs.lemmas.Bool.Decides.{nat_tests}
 use Rattle.std.specs.List.{list_all}
-use Rattle.book.specs.Encoding.{head_type}
+use Rattle.book.specs.Encoding.{head_type, kind_told}
+use Rattle.book.specs.declared.kind.NoSuchKind.{NoSuchKind}
 use Rattle.book.specs.declared.kind.Kind.{Kind}
 use Rattle.book.specs.declared.kind.Kind.TheVariants.{Plain, Choice}
 use Rattle.aspif.specs.Texts.{spaced}
 use Rattle.aspif.specs.declared.error.TextError.TheVariants.{Malformed, Unsupported}
 use Rattle.reader.specs.Fields.{and_then, follows, field_at}
 use Rattle.reader.specs.Rows.{after_count, count_limit, count_fault, count_judged, count_at, allowed, Row, row_at, Counted}
-use Rattle.reader.specs.Lines.{counted_at, head_judged, head_type_at, body_judged, body_type_at, Headed}
+use Rattle.reader.specs.Lines.{counted_at, headed_by, head_judged, head_type_at, body_judged, body_type_at, Headed}
 use Rattle.reader.specs.declared.pieces.After.TheVariants.{Space, ByCount}
 use Rattle.reader.specs.declared.pieces.Count.{Count}
 use Rattle.reader.specs.declared.pieces.Count.TheVariants as count
@@ -136,20 +137,29 @@ pub record HeadTypeSays (text : List ℕ) (at : ℕ) (h : Headed) : Type 0 where
   pub bytes : drop at text ≡ signed_decimal (head_type h.kind) ++ (32 ∷ drop h.next text)
   pub next : h.next ≡ at + length (signed_decimal (head_type h.kind)) + 1
 
-head_type_by_value : (text : List ℕ) (at : ℕ) (z : ℤ) (b next : ℕ) → Says Space text at (record { value = z; ending = b; next = next }) → IfOk (head_judged at (record { value = z; ending = b; next = next })) (HeadTypeSays text at)
-head_type_by_value text at (pos n) b next s =
+-- a number that tells a kind is the kind's
+kind_by : (n : ℕ) (k : Kind) (plain choice : Bool) → eqb n 0 ≡ plain → eqb n 1 ≡ choice → cond plain (Ok Plain) (cond {A = Result Kind NoSuchKind} choice (Ok Choice) (Err (record {}))) ≡ Ok k → pos n ≡ head_type k
+kind_by n k true choice a b e = let same : Plain ≡ k = cc in ap pos (eqb-true n 0 a) ∙ ap head_type same
+kind_by n k false true a b e = let same : Choice ≡ k = cc in ap pos (eqb-true n 1 b) ∙ ap head_type same
+kind_by n k false false a b e = let z : ◌≡◌ {A = ℕ} 0 1 = cc in absurd (omega arith)
+
+kind_is : (z : ℤ) (k : Kind) → kind_told z ≡ Ok k → z ≡ head_type k
+kind_is (pos n) k e = kind_by n k (eqb n 0) (eqb n 1) refl refl e
+kind_is (negsuc n) k e = let z : ◌≡◌ {A = ℕ} 0 1 = cc in absurd (omega arith)
+
+head_type_told : (text : List ℕ) (at : ℕ) (z : ℤ) (b next : ℕ) → Says Space text at (record { value = z; ending = b; next = next }) → (r : Result Kind NoSuchKind) → kind_told z ≡ r → IfOk (headed_by at next r) (HeadTypeSays text at)
+head_type_told text at z b next s (Ok k) e =
     let space : b ≡ 32 = eqb-true b 32 s.fits in
-    let bytes = s.bytes ∙ ap (λ x. decimal n ++ (x ∷ drop next text)) space in
-    cond_both (eqb n 0) (Ok (record { kind = Plain; next = next })) _ (λ r. IfOk r (HeadTypeSays text at))
-    (λ t. let zero_here : n ≡ 0 = eqb-true n 0 t in record { bytes = bytes ∙ ap (λ k. decimal k ++ (32 ∷ drop next text)) zero_here; next = s.next ∙ ap (λ k. at + length (decimal k) + 1) zero_here })
-    (λ _. cond_both (eqb n 1) (Ok (record { kind = Choice; next = next })) (Err (Malformed at)) (λ r. IfOk r (HeadTypeSays text at))
-    (λ t. let one_here : n ≡ 1 = eqb-true n 1 t in record { bytes = bytes ∙ ap (λ k. decimal k ++ (32 ∷ drop next text)) one_here; next = s.next ∙ ap (λ k. at + length (decimal k) + 1) one_here })
-    (λ _. tt))
-head_type_by_value text at (negsuc n) b next s = tt
+    let same = kind_is z k e in
+    record {
+      bytes = s.bytes ∙ ap (λ x. signed_decimal z ++ (x ∷ drop next text)) space ∙ ap (λ x. signed_decimal x ++ (32 ∷ drop next text)) same;
+      next = s.next ∙ ap (λ x. at + length (signed_decimal x) + 1) same;
+    }
+head_type_told text at z b next s (Err x) e = tt
 
 pub head_type_says : (text : List ℕ) (at : ℕ) → IfOk (head_type_at text at) (HeadTypeSays text at)
 unfolding head_type_at
-head_type_says text at = then_made (Says Space text at) (HeadTypeSays text at) (field_at Space text at) (head_judged at) (field_says Space text at) (λ f s. head_type_by_value text at f.value f.ending f.next s)
+head_type_says text at = then_made (Says Space text at) (HeadTypeSays text at) (field_at Space text at) (head_judged at) (field_says Space text at) (λ f s. head_type_told text at f.value f.ending f.next s (kind_told f.value) refl)
 
 pub record BodyTypeSays (text : List ℕ) (at next : ℕ) : Type 0 where
   pub bytes : drop at text ≡ decimal 0 ++ (32 ∷ drop next text)

@@ -1,7 +1,8 @@
 -- What the lists of the caller hold, before a text is read and after it.
 use Rattle.std.specs.Prelude.{◌≡◌, ℕ, Bool, List, length, ℤ}
 use Rattle.reader.specs.Statements.{Stmt}
-use Rattle.reader.specs.Read.{has_room, integers_after, starts_after, names_after, assumed_after}
+use Rattle.reader.specs.Fill.{listed}
+use Rattle.reader.specs.Read.{statements_of, read_answer, after_read, has_room, integers_after, starts_after, names_after, assumed_after}
 use Rattle.reader.specs.declared.lists.Lists.{Lists}
 use Rattle.reader.specs.declared.pieces.Counts.{Counts}
 
@@ -36,3 +37,8 @@ pub record SameLists (l m : Lists) : Type 0 where
   pub places : m.places.ghost_name ≡ l.places.ghost_name
   pub lengths : m.lengths.ghost_name ≡ l.lengths.ghost_name
   pub assumed : m.assumed.ghost_name ≡ l.assumed.ghost_name
+
+-- the lists after a text was read into them: filled from it, or as they were where it was refused
+pub record ReadInto (text : List ℕ) (l m : Lists) : Type 0 where
+  pub lists : held m ≡ after_read (read_answer text (has_room_in (held l))) (held_after (listed (statements_of text)) (held l)) (held l)
+  pub same : SameLists l m

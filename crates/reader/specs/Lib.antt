@@ -1,4 +1,5 @@
 pub mod Fields
+pub mod Cursors
 pub mod Rows
 pub mod Statements
 pub mod Lines
@@ -7,5 +8,6 @@ pub mod Scan
 pub mod Fill
 pub mod Seen
 pub mod Read
+pub mod Tables
 pub mod Held
 pub mod ReadLaw

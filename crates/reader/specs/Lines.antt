@@ -2,7 +2,8 @@
 use Rattle.std.specs.Prelude.{ℕ, ◌+◌, ◌-◌, Bool, cond, not, ◌||◌, List, map, length, take, drop, pos, negsuc, Ok, Err, Result, ◌==◌, nat_lt, slice_index, unsigned_abs}
 use Rattle.std.specs.List.{prefix_len}
 use Rattle.book.specs.declared.kind.Kind.{Kind}
-use Rattle.book.specs.declared.kind.Kind.TheVariants.{Plain, Choice}
+use Rattle.book.specs.declared.kind.NoSuchKind.{NoSuchKind}
+use Rattle.book.specs.Encoding.{kind_told}
 use Rattle.aspif.specs.declared.error.TextError.{TextError}
 use Rattle.aspif.specs.declared.error.TextError.TheVariants.{Malformed, Unsupported, UnexpectedEnd}
 use Rattle.reader.specs.Fields.{and_then, Field, field_at}
@@ -28,11 +29,12 @@ pub record Headed : Type 0 where
 abbrev pub headed_to : Kind → ℕ → Headed
 headed_to k next = record { kind = k; next = next }
 
+abbrev pub headed_by : ℕ → ℕ → Result Kind NoSuchKind → Result Headed TextError
+headed_by at next (Ok k) = Ok (headed_to k next)
+headed_by at next (Err e) = Err (Malformed at)
+
 abbrev pub head_judged : ℕ → Field → Result Headed TextError
-head_judged at f = elim f.value [
-  | pos n ↦ cond (n == 0) (Ok (record { kind = Plain; next = f.next })) (cond (n == 1) (Ok (record { kind = Choice; next = f.next })) (Err (Malformed at)))
-  | negsuc n ↦ Err (Malformed at)
-]
+head_judged at f = headed_by at f.next (kind_told f.value)
 
 unfoldable pub head_type_at : List ℕ → ℕ → Result Headed TextError
 head_type_at text at = and_then (field_at Space text at) (head_judged at)

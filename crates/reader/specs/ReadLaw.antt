@@ -12,6 +12,7 @@ use Rattle.reader.specs.Statements.{Stmt, rule, output, assumption, skipped}
 use Rattle.reader.specs.Program.{rules_of, assumed_of, atoms_of, sizes_of, Program}
 use Rattle.reader.specs.Fill.{NameLists, both, with_names, listed, atom_named}
 use Rattle.reader.specs.Read.{statements_of, room_tested, read_answer, unnamed, integers_after, starts_after, assumed_after, names_after}
+use Rattle.reader.specs.Held.{Held}
 use Rattle.reader.specs.declared.pieces.Counts.{Counts}
 
 -- A text is read without refusal exactly where it is the program of some statements, and then as those.
@@ -35,6 +36,15 @@ assumed_together ss xs = sets xs 0 (assumed_of ss)
 
 abbrev pub names_together : List Stmt → List ℕ → List ℕ → NameLists
 names_together ss places lengths = with_names (both (unnamed (atoms_of ss) places) (unnamed (atoms_of ss) lengths)) ss
+
+abbrev pub held_together : List Stmt → Held → Held
+held_together ss H = record {
+  integers = integers_together ss H.integers;
+  starts = starts_together ss H.starts;
+  places = (names_together ss H.places H.lengths).starts;
+  lengths = (names_together ss H.places H.lengths).lengths;
+  assumed = assumed_together ss H.assumed;
+}
 
 pub record SaidTogether (text : List ℕ) : Type 0 where
   pub answer : (room : Counts → Bool) → read_answer text room ≡ answer_together text room
@@ -66,13 +76,13 @@ first_name a [] = None
 first_name a (s ∷ ss) = cond (is_atom a (atom_named s)) (Some (name_of s)) (first_name a ss)
 
 -- the fronts of the lists that were filled, each as long as was answered, with the text that the names stand in
-pub record Fronts (C : Counts) (text : List ℕ) (integers : List ℤ) (starts places lengths : List ℕ) (L : RuleLists) : Type 0 where
+pub record Fronts (C : Counts) (text : List ℕ) (H : Held) (L : RuleLists) : Type 0 where
   pub all_atoms : L.atoms ≡ C.atoms
-  pub rule_integers : L.integers.now ≡ take C.integers integers
-  pub rule_starts : L.starts.now ≡ take C.rules starts
+  pub rule_integers : L.integers.now ≡ take C.integers H.integers
+  pub rule_starts : L.starts.now ≡ take C.rules H.starts
   pub name_text : L.names.text.now ≡ text
-  pub name_starts : L.names.starts.now ≡ take C.atoms places
-  pub name_lengths : L.names.lengths.now ≡ take C.atoms lengths
+  pub name_starts : L.names.starts.now ≡ take C.atoms H.places
+  pub name_lengths : L.names.lengths.now ≡ take C.atoms H.lengths
 
 -- the book of the lists has the rules of the statements, and the names that they give
 pub record BookOf (ss : List Stmt) (L : RuleLists) : Type 0 where
@@ -81,6 +91,5 @@ pub record BookOf (ss : List Stmt) (L : RuleLists) : Type 0 where
   pub names : (a : ℕ) → 1 ≤ a → numbers_name L a ≡ first_name a ss
 
 -- What was filled is accepted as a book, and that is the book of the text.
-abbrev pub FillsTheBook : Result Counts TextError → List ℕ → List ℤ → List ℕ → List ℕ → List ℕ → Type 0
-FillsTheBook answer text integers starts places lengths =
-    (C : Counts) (L : RuleLists) → answer ≡ Ok C → Fronts C text integers starts places lengths L → BookOf (listed (statements_of text)) L
+abbrev pub FillsTheBook : Result Counts TextError → List ℕ → Held → Type 0
+FillsTheBook answer text H = (C : Counts) (L : RuleLists) → answer ≡ Ok C → Fronts C text H L → BookOf (listed (statements_of text)) L

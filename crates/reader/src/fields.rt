@@ -1,6 +1,7 @@
 // One number of a text.
 ghost use Rattle.std.specs.Prelude.{◌≡◌, ◌+◌, ◌<◌, ◌≤◌, length, IfOk, OnOk};
-ghost use Rattle.reader.specs.Fields.{minus_at, digits_from, goes_on, follows, field_at, field_to, stepped, byte_at};
+ghost use Rattle.reader.specs.Fields.{minus_at, digits_from, goes_on, follows, field_at, field_to, byte_at};
+ghost use Rattle.reader.specs.Cursors.{Reads};
 
 use crate::cursor::Cursor;
 use crate::digits::{Numeral, digits_count};
@@ -66,8 +67,7 @@ impl Cursor<'_> {
     // A number, and the byte after it.
     #[tactic(auto, using(crate::proofs::Scans::number_steps))]
     pub(crate) fn field(&mut self, after: After) -> Result<i32, TextError>
-        ensures field { stepped (field_to self.old.text.now) result self.new.at ≡ field_at after self.old.text.now self.old.at }
-        ensures same_text { self.new.text ≡ self.old.text }
+        ensures reads { Reads (field_to self.old.text.now) (field_at after) self.old result self.new }
         ensures forward { IfOk result (λ _. self.old.at < self.new.at) }
     {
         let malformed = TextError::Malformed(self.at as u32);

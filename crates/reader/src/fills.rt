@@ -2,10 +2,9 @@
 ghost use Rattle.std.specs.Prelude.{◌≡◌, ◌≤◌, length, Ok};
 ghost use Rattle.std.proofs.lemmas.List.Edits.{sets};
 ghost use Rattle.reader.specs.Statements.{assumed_in};
-ghost use Rattle.reader.specs.Fill.{integers_in, parts_in, starts_in, both, with_names};
+ghost use Rattle.reader.specs.Fill.{integers_in, parts_in, starts_in};
 ghost use Rattle.reader.specs.Seen.{statements_left};
 
-use crate::names::put_name;
 use crate::puts::{put_numbers, put_rule};
 use crate::statement::Statement;
 use crate::statements::Statements;
@@ -52,16 +51,4 @@ pub(crate) fn fill_assumed(statements: Statements<'_>, out: &mut [i32]) -> Resul
         }
     }
     Ok(())
-}
-
-// The names that outputs give, into lists where no atom has one yet.
-pub(crate) fn fill_names(statements: Statements<'_>, places: &mut [u32], lengths: &mut [u32])
-    ensures places { places.new ≡ (with_names (both places.old lengths.old) (statements_left statements.entry)).starts }
-    ensures lengths { lengths.new ≡ (with_names (both places.old lengths.old) (statements_left statements.entry)).lengths }
-{
-    for statement in statements {
-        if let Statement::Output(output) = statement {
-            put_name(places, lengths, output);
-        }
-    }
 }

@@ -1,7 +1,7 @@
 // One line of a text.
 ghost use Rattle.std.specs.Prelude.{◌≡◌, ◌+◌, ◌-◌, ◌<◌, ◌≤◌, length, take, drop, IfOk};
 ghost use Rattle.std.specs.List.{prefix_len};
-ghost use Rattle.reader.specs.Fields.{stepped};
+ghost use Rattle.reader.specs.Cursors.{Reads};
 ghost use Rattle.reader.specs.Lines.{counted_at, headed_to, head_type_at, body_type_at, rule_at, name_end_at, output_at, assumption_at, in_line, skipped_at, line_at};
 ghost use Rattle.reader.specs.Seen.{row_to, said_to, line_to};
 
@@ -23,8 +23,7 @@ impl<'a> Cursor<'a> {
     // A count, and then so many numbers.
     #[tactic(auto, using(crate::proofs::Steps::row_reads), unfolding(crate::specs::Lines::counted_at))]
     fn counted(&mut self, count: Count, items: Items) -> Result<Numbers<'a>, TextError>
-        ensures row { stepped row_to result self.new.at ≡ counted_at count items self.old.text.now self.old.at }
-        ensures same_text { self.new.text ≡ self.old.text }
+        ensures reads { Reads row_to (counted_at count items) self.old result self.new }
         ensures items { IfOk result (λ numbers. numbers.items ≡ items) }
     {
         let count = self.count(count)?;
@@ -40,22 +39,17 @@ impl<'a> Cursor<'a> {
     // The kind of a rule.
     #[tactic(auto, unfolding(crate::specs::Lines::head_type_at))]
     fn head_type(&mut self) -> Result<Kind, TextError>
-        ensures head { stepped headed_to result self.new.at ≡ head_type_at self.old.text.now self.old.at }
-        ensures same_text { self.new.text ≡ self.old.text }
+        ensures { Reads headed_to head_type_at self.old result self.new }
     {
         let at = self.at as u32;
-        match self.field(After::Space)? {
-            0 => Ok(Kind::Plain),
-            1 => Ok(Kind::Choice),
-            _ => Err(TextError::Malformed(at)),
-        }
+        let number = self.field(After::Space)?;
+        Kind::try_from(number).map_err(|_| TextError::Malformed(at))
     }
 
     // The type of a body, where it is one that is read.
     #[tactic(auto, unfolding(crate::specs::Lines::body_type_at))]
     fn body_type(&mut self) -> Result<(), TextError>
-        ensures body { stepped (λ _ next. next) result self.new.at ≡ body_type_at self.old.text.now self.old.at }
-        ensures same_text { self.new.text ≡ self.old.text }
+        ensures { Reads (λ _ next. next) body_type_at self.old result self.new }
     {
         let at = self.at as u32;
         match self.field(After::Space)? {
@@ -67,8 +61,7 @@ impl<'a> Cursor<'a> {
 
     #[tactic(auto, unfolding(crate::specs::Lines::rule_at))]
     fn rule(&mut self) -> Result<Statement<'a>, TextError>
-        ensures said { stepped said_to result self.new.at ≡ rule_at self.old.text.now self.old.at }
-        ensures same_text { self.new.text ≡ self.old.text }
+        ensures { Reads said_to rule_at self.old result self.new }
     {
         let kind = self.head_type()?;
         let heads = self.counted(Count::Heads(kind), Items::Heads)?;
@@ -80,8 +73,7 @@ impl<'a> Cursor<'a> {
     // A name of so many bytes, and the space that has to stand after it.
     fn name(&mut self, size: u32) -> Result<&'a [u8], TextError>
         ensures name { IfOk result (λ name. name.now ≡ take size (drop self.old.at self.old.text.now)) }
-        ensures end { stepped (λ _ next. next) result self.new.at ≡ name_end_at self.old.text.now (self.old.at + size) }
-        ensures same_text { self.new.text ≡ self.old.text }
+        ensures end { Reads (λ _ next. next) (λ text at. name_end_at text (at + size)) self.old result self.new }
         ensures short { IfOk result (λ name. length name.now ≤ 65536) }
     {
         let from = self.at;
@@ -94,8 +86,7 @@ impl<'a> Cursor<'a> {
 
     #[tactic(auto, unfolding(crate::specs::Lines::output_at))]
     fn output(&mut self) -> Result<Statement<'a>, TextError>
-        ensures said { stepped said_to result self.new.at ≡ output_at self.old.text.now self.old.at }
-        ensures same_text { self.new.text ≡ self.old.text }
+        ensures { Reads said_to output_at self.old result self.new }
     {
         let size = self.count(Count::Name)?;
         let at = self.at;
@@ -106,8 +97,7 @@ impl<'a> Cursor<'a> {
 
     #[tactic(auto, unfolding(crate::specs::Lines::assumption_at))]
     fn assumption(&mut self) -> Result<Statement<'a>, TextError>
-        ensures said { stepped said_to result self.new.at ≡ assumption_at self.old.text.now self.old.at }
-        ensures same_text { self.new.text ≡ self.old.text }
+        ensures { Reads said_to assumption_at self.old result self.new }
     {
         let literals = self.counted(Count::Assumed, Items::Literals)?;
         Ok(Statement::Assumption(literals))
@@ -117,8 +107,7 @@ impl<'a> Cursor<'a> {
     #[tactic(auto, unfolding(crate::specs::Lines::skipped_at))]
     fn skipped(&mut self, kind: u32) -> Result<Statement<'a>, TextError>
         requires { 0 < self.old.at }
-        ensures said { stepped said_to result self.new.at ≡ skipped_at kind self.old.text.now (self.old.at - 1) }
-        ensures same_text { self.new.text ≡ self.old.text }
+        ensures { Reads said_to (λ text at. skipped_at kind text (at - 1)) self.old result self.new }
     {
         let from = self.at - 1;
         let end = from + line_size(&self.text[from..]);
@@ -132,8 +121,7 @@ impl<'a> Cursor<'a> {
     // What the next line says; nothing where it is the closing line.
     #[tactic(auto, unfolding(crate::specs::Lines::line_at))]
     pub(crate) fn statement(&mut self) -> Result<Option<Statement<'a>>, TextError>
-        ensures line { stepped line_to result self.new.at ≡ line_at self.old.text.now self.old.at }
-        ensures same_text { self.new.text ≡ self.old.text }
+        ensures { Reads line_to line_at self.old result self.new }
     {
         let at = self.at as u32;
         let kind = self.field(After::ByKind)?;

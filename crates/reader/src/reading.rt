@@ -2,14 +2,15 @@
 ghost use Rattle.std.specs.Prelude.{◌≡◌, ◌≤◌, true, length, replicate, Ok};
 ghost use Rattle.std.proofs.lemmas.List.Edits.{sets};
 ghost use Rattle.reader.specs.Fill.{listed};
-ghost use Rattle.reader.specs.Read.{begins, statements_of, read_answer, after_read, EveryTextHasItsVerdict};
-ghost use Rattle.reader.specs.Held.{held, held_after, has_room_in, SameLists};
+ghost use Rattle.reader.specs.Read.{begins, statements_of, read_answer, EveryTextHasItsVerdict};
+ghost use Rattle.reader.specs.Held.{held, held_after, has_room_in, SameLists, ReadInto};
 ghost use Rattle.reader.specs.ReadLaw.{ReadsExactlyPrograms, SaidTogether, WrittenReadsBack, FillsTheBook};
 ghost use Rattle.reader.specs.Scan.{nothing, counts_of};
 ghost use Rattle.aspif.specs.Texts.{heading};
 
-use crate::fills::{fill_assumed, fill_names, fill_rules};
+use crate::fills::{fill_assumed, fill_rules};
 use crate::lists::Lists;
+use crate::names::fill_names;
 use crate::pieces::Counts;
 use crate::statements::Statements;
 use crate::survey::survey;
@@ -78,13 +79,12 @@ impl Lists<'_> {
 // Fills the lists from a text, each from its front on, and answers what the text holds.
 pub fn read(text: &[u8], lists: &mut Lists<'_>) -> Result<Counts, TextError>
     ensures answer { result ≡ read_answer text.now (has_room_in (held lists.old)) }
-    ensures lists { held lists.new ≡ after_read result (held_after (listed (statements_of text.now)) (held lists.old)) (held lists.old) }
-    ensures same { SameLists lists.old lists.new }
+    ensures left { ReadInto text.now lists.old lists.new }
     ensures verdict { EveryTextHasItsVerdict text.now }
     ensures programs { ReadsExactlyPrograms text.now }
     ensures together { SaidTogether text.now }
     ensures back { WrittenReadsBack text.now }
-    ensures book { FillsTheBook result text.now lists.new.integers.now lists.new.starts.now lists.new.places.now lists.new.lengths.now }
+    ensures book { FillsTheBook result text.now (held lists.new) }
 {
     let counts = counts_of(text)?;
     if !lists.has_room(counts) {

@@ -1,6 +1,7 @@
 // Counts, and rows of numbers.
 ghost use Rattle.std.specs.Prelude.{◌≡◌};
-ghost use Rattle.reader.specs.Fields.{field_to, stepped};
+ghost use Rattle.reader.specs.Cursors.{Reads};
+ghost use Rattle.reader.specs.Fields.{field_to};
 ghost use Rattle.reader.specs.Rows.{after_count, count_limit, count_fault, counted_to, count_at, allowed, after_item, item_at, row_at, row_end};
 
 use crate::cursor::Cursor;
@@ -67,8 +68,7 @@ impl Cursor<'_> {
     // A count, up to its limit.
     #[tactic(auto, unfolding(crate::specs::Rows::count_at))]
     pub(crate) fn count(&mut self, count: Count) -> Result<u32, TextError>
-        ensures count { stepped counted_to result self.new.at ≡ count_at count self.old.text.now self.old.at }
-        ensures same_text { self.new.text ≡ self.old.text }
+        ensures { Reads counted_to (count_at count) self.old result self.new }
     {
         let at = self.at as u32;
         match self.field(count.after())? {
@@ -81,8 +81,7 @@ impl Cursor<'_> {
     // A number of a row, with so many more behind it.
     #[tactic(auto, unfolding(crate::specs::Rows::item_at))]
     pub(crate) fn item(&mut self, items: Items, more: u32) -> Result<i32, TextError>
-        ensures item { stepped (field_to self.old.text.now) result self.new.at ≡ item_at items more self.old.text.now self.old.at }
-        ensures same_text { self.new.text ≡ self.old.text }
+        ensures { Reads (field_to self.old.text.now) (item_at items more) self.old result self.new }
     {
         let at = self.at as u32;
         let number = self.field(items.after(more))?;
@@ -95,8 +94,7 @@ impl Cursor<'_> {
     // A row of so many numbers.
     #[tactic(auto, using(crate::proofs::Steps::row_steps))]
     pub(crate) fn row(&mut self, items: Items, count: u32) -> Result<(), TextError>
-        ensures end { stepped (λ _ next. next) result self.new.at ≡ row_end (row_at items count self.old.text.now self.old.at) }
-        ensures same_text { self.new.text ≡ self.old.text }
+        ensures { Reads (λ _ next. next) (λ text at. row_end (row_at items count text at)) self.old result self.new }
     {
         for more in (0..count).rev() {
             self.item(items, more)?;

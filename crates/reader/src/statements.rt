@@ -40,13 +40,10 @@ impl<'a> Iterator for Statements<'a> {
 
     fn next(&mut self) -> Option<Statement<'a>> {
         let mut cursor = self.cursor;
-        match cursor.statement() {
-            Ok(Some(statement)) => {
-                self.cursor = cursor;
-                Some(statement)
-            }
-            Ok(None) => None,
-            Err(_) => None,
-        }
+        let Ok(Some(statement)) = cursor.statement() else {
+            return None;
+        };
+        self.cursor = cursor;
+        Some(statement)
     }
 }

@@ -2,9 +2,7 @@
 ghost use Rattle.std.specs.Prelude.{◌≡◌, List, length};
 ghost use Rattle.reader.specs.Statements.{Stmt};
 ghost use Rattle.reader.specs.ReadLaw.{Fronts, BookOf};
-ghost use Rattle.reader.specs.Fill.{listed};
-ghost use Rattle.reader.specs.Read.{statements_of, read_answer, after_read};
-ghost use Rattle.reader.specs.Held.{held, held_after, has_room_in, SameLists};
+ghost use Rattle.reader.specs.Held.{held, has_room_in, ReadInto};
 ghost use Rattle.numbers.specs.declared.lists.RuleLists.{RuleLists as Rules};
 ghost use Rattle.aspif.specs.Write.{write_answer};
 ghost use Rattle.report.specs.Compose.{written};
@@ -23,7 +21,7 @@ use reader::reading::read;
 
 // What was read, as lists of numbers.
 fn rules_of<'a>(counts: Counts, text: &'a [u8], lists: &'a Lists<'_>) -> RuleLists<'a>
-    ensures { Fronts counts text.now lists.now.integers.now lists.now.starts.now lists.now.places.now lists.now.lengths.now result }
+    ensures { Fronts counts text.now (held lists.now) result }
 {
     let atoms = counts.atoms as usize;
     let names = Names {
@@ -55,7 +53,7 @@ fn write_again(
     lists: &Lists<'_>,
     out: &mut [u8],
 ) -> Result<usize, Fault>
-    ensures { (ss : List Stmt) → ((L : Rules) → Fronts counts text.now lists.now.integers.now lists.now.starts.now lists.now.places.now lists.now.lengths.now L → BookOf ss L) → (result ≡ written (write_answer (book_of ss) (length out.old))) × (out.new ≡ put_text result (book_of ss) out.old) }
+    ensures { (ss : List Stmt) → ((L : Rules) → Fronts counts text.now (held lists.now) L → BookOf ss L) → (result ≡ written (write_answer (book_of ss) (length out.old))) × (out.new ≡ put_text result (book_of ss) out.old) }
 {
     let rules = rules_of(counts, text, lists);
     write_checked(rules, out)
@@ -66,19 +64,18 @@ fn write_again(
 pub fn rewrite(text: &[u8], lists: &mut Lists<'_>, out: &mut [u8]) -> Result<usize, Fault>
     ensures result { result ≡ rewrite_answer text.now (has_room_in (held lists.old)) (length out.old) }
     ensures buffer { out.new ≡ put_text result (rules_in text.now) out.old }
-    ensures lists { held lists.new ≡ after_read (read_answer text.now (has_room_in (held lists.old))) (held_after (listed (statements_of text.now)) (held lists.old)) (held lists.old) }
-    ensures same { SameLists lists.old lists.new }
+    ensures left { ReadInto text.now lists.old lists.new }
 {
     let counts = read(text, lists)?;
     write_again(counts, text, lists, out)
 }
 
-// The same, with the line of the refusal in the buffer where a text is refused.
+// The same, with the line of the refusal in the buffer where a text is refused. (An `or_else` was tried: what its closure
+// leaves in the buffer is not known after it.)
 pub fn rewrite_or_tell(text: &[u8], lists: &mut Lists<'_>, out: &mut [u8]) -> Result<usize, Fault>
     ensures result { result ≡ or_told (rewrite_answer text.now (has_room_in (held lists.old)) (length out.old)) (length out.old) }
     ensures buffer { out.new ≡ or_told_into (rewrite_answer text.now (has_room_in (held lists.old)) (length out.old)) (rules_in text.now) out.old }
-    ensures lists { held lists.new ≡ after_read (read_answer text.now (has_room_in (held lists.old))) (held_after (listed (statements_of text.now)) (held lists.old)) (held lists.old) }
-    ensures same { SameLists lists.old lists.new }
+    ensures left { ReadInto text.now lists.old lists.new }
 {
     match rewrite(text, lists, out) {
         Ok(size) => Ok(size),

@@ -1,8 +1,8 @@
 // Completing a sheet.
-ghost use Rattle.std.specs.Prelude.{◌≡◌, ℕ};
+ghost use Rattle.std.specs.Prelude.{◌≡◌, ℕ, Bool};
+ghost use Rattle.base.specs.Closures.{Computes};
 ghost use Rattle.sheet.specs.declared.proposal.Reason.{Reason};
 ghost use Rattle.sheet.specs.Complete.{admits as admitting, lowest, first_reason, enter_first, round as rounding, rounds as rounds_of, complete_call};
-ghost use Rattle.sheet.specs.Closures.{Computes};
 ghost use Rattle.sheet.specs.Kept.{marking};
 ghost use Rattle.sheet.specs.Lists.{how_many};
 ghost use Rattle.sheet.specs.Marks.{is_unmarked};
@@ -99,9 +99,17 @@ impl<'b, B: Book> Sheet<'b, B> {
     }
 }
 
+// How many of the atoms from 1 on pass the test.
+fn count_passing<F: Fn(u32) -> bool>(atoms: u32, test: F) -> u32
+    requires { F.IsAlwaysCallable test }
+    ensures { (p : ℕ → Bool) → Computes (F.post test) p → result ≡ how_many p atoms }
+{
+    (1..=atoms).filter(|atom| test(*atom)).count() as u32
+}
+
 // How many of the atoms from 1 on are unmarked.
 fn count_unmarked(marks: &[Mark], atoms: u32) -> u32
     ensures { result ≡ how_many (λ a. is_unmarked (marking marks.now a)) atoms }
 {
-    (1..=atoms).filter(|atom| is_unmarked(marks, *atom)).count() as u32
+    count_passing(atoms, |atom| is_unmarked(marks, atom))
 }

@@ -1,12 +1,14 @@
 // Tests of a rule of any book: of its head, and of its body literal by literal.
-ghost use Rattle.std.specs.Prelude.{◌≡◌, ℕ, ℤ, Bool, nat_eq};
+ghost use Rattle.std.specs.Prelude.{◌≡◌, ℕ, ℤ, Bool, Option, nat_eq};
+ghost use Rattle.base.specs.Closures.{Computes};
+ghost use Rattle.base.specs.Search.{least};
 ghost use Rattle.sheet.specs.Lists.{passes};
 ghost use Rattle.sheet.specs.Marks.{says};
 ghost use Rattle.sheet.specs.Bodies.{first_unmet, is_positive, literal_holds, literal_fails, literal_true};
 ghost use Rattle.sheet.specs.Allowed.{is_constraint};
 ghost use Rattle.sheet.specs.Open.{broken_at, first_broken};
 ghost use Rattle.sheet.specs.Verdicts.{fits_required, unfailing_at, first_unfailing};
-ghost use Rattle.sheet.specs.Closures.{Computes, ComputesOnLiterals};
+ghost use Rattle.sheet.specs.Closures.{ComputesOnFound, ComputesOnLiterals};
 ghost use Rattle.sheet.specs.Judges.{rules_of, answer_of, marks_of, rule_of, some_head, some_literal};
 
 use crate::judge::Judge;
@@ -15,6 +17,19 @@ use crate::tests::{is_positive, mark_at};
 use base::parts::item_or;
 use book::book::Book;
 use book::kind::Kind;
+
+// The first of so many places whose item passes the test.
+fn first_place<T, L: Fn(u32) -> Option<T>, F: Fn(T) -> bool>(
+    count: u32,
+    look: L,
+    test: F,
+) -> Option<u32>
+    requires look { L.IsAlwaysCallable look }
+    requires test { F.IsAlwaysCallable test }
+    ensures { (found : ℕ → Option T) (p : T → Bool) → Computes (L.post look) found → ComputesOnFound found (F.post test) p → result ≡ least (λ at. passes p (found at)) count }
+{
+    (0..count).find(|at| look(*at).is_some_and(|item| test(item)))
+}
 
 impl<'a, B: Book> Judge<'a, B> {
     // Whether the atom is in the answer.
@@ -57,11 +72,12 @@ impl<'a, B: Book> Judge<'a, B> {
         requires { F.IsAlwaysCallable test }
         ensures { (p : ℤ → Bool) → ComputesOnLiterals (F.post test) p → result ≡ first_unmet p (rule_of B.meaning self.now rule) }
     {
-        (0..self.book.body_size(rule).unwrap_or(0)).find(|at| {
-            self.book
-                .literal(rule, *at)
-                .is_some_and(|literal| !test(literal))
-        })
+        let size = self.book.body_size(rule).unwrap_or(0);
+        first_place(
+            size,
+            |at| self.book.literal(rule, at),
+            |literal| !test(literal),
+        )
     }
 
     // Whether a literal of the body passes the test.
@@ -69,11 +85,7 @@ impl<'a, B: Book> Judge<'a, B> {
         requires { F.IsAlwaysCallable test }
         ensures { (p : ℤ → Bool) → ComputesOnLiterals (F.post test) p → result ≡ some_literal p (rule_of B.meaning self.now rule) }
     {
-        (0..self.book.body_size(rule).unwrap_or(0)).any(|at| {
-            self.book
-                .literal(rule, at)
-                .is_some_and(|literal| test(literal))
-        })
+        self.first_unmet(rule, |literal| !test(literal)).is_some()
     }
 
     // Whether an atom of the head passes the test.
@@ -81,9 +93,8 @@ impl<'a, B: Book> Judge<'a, B> {
         requires { F.IsAlwaysCallable test }
         ensures { (p : ℕ → Bool) → Computes (F.post test) p → result ≡ some_head p (rule_of B.meaning self.now rule) }
     {
-        (0..self.book.head_size(rule).unwrap_or(0)).any(|at| {
-            self.book.head(rule, at).is_some_and(|atom| test(atom))
-        })
+        let size = self.book.head_size(rule).unwrap_or(0);
+        first_place(size, |at| self.book.head(rule, at), test).is_some()
     }
 
     // Whether the rule has the atom in its head.

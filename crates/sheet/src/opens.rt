@@ -7,7 +7,7 @@ ghost use Rattle.sheet.specs.View.{view, leaving};
 use crate::error::SheetError;
 use crate::flags::{put_assumed, put_literals};
 use crate::judge::Judge;
-use crate::lists::{fault_at, first_fault};
+use crate::lists::Opening;
 use crate::sheet::Sheet;
 use book::book::Book;
 
@@ -27,8 +27,12 @@ impl<'b, B: Book> Sheet<'b, B> {
         if self.opened {
             return Err(SheetError::WrongState);
         }
-        if let Some(at) = first_fault(self.book, literals) {
-            return Err(fault_at(self.book, literals, at));
+        let opening = Opening {
+            book: self.book,
+            literals,
+        };
+        if let Some(at) = opening.first_fault() {
+            return Err(opening.fault_at(at));
         }
         put_literals(&mut self.answer, &mut self.assumed, literals);
         // the facts of the sheet do not hold here, so the judge is made of its lists

@@ -16,7 +16,8 @@ use base::parts::{item, put};
 use book::book::Book;
 use std::alloc::{AllocError, Global};
 
-// A place for every atom that a book can have, and one for 0, which is none.
+// A place for every atom that a book can have, and one for 0, which is none. A function, since a proof that sees the number
+// takes the lists apart item by item; that was tried with a `const`.
 fn places() -> usize
     ensures { result ≡ 1025 }
 {
@@ -30,9 +31,9 @@ impl<'b, B: Book> Sheet<'b, B> {
         ensures sound { IfOk result (λ s. SoundAndReliable (view B.meaning s)) }
     {
         let n = places();
-        let answer = Vec::from_elem(heap, false, n)?;
-        let assumed = Vec::from_elem(heap, false, n)?;
-        let marks = Vec::from_elem(heap, Mark::Unmarked, n)?;
+        let answer = vec![in heap; false; n]?;
+        let assumed = vec![in heap; false; n]?;
+        let marks = vec![in heap; Mark::Unmarked; n]?;
         let entries = Vec::with_capacity(heap, n)?;
         Ok(Sheet {
             book,
@@ -61,11 +62,7 @@ impl<'b, B: Book> Sheet<'b, B> {
     pub fn mark(&self, atom: u32) -> Option<Mark>
         ensures { result ≡ mark_of (view B.meaning self.now) atom }
     {
-        if is_atom(self.book.atoms(), atom) {
-            Some(mark_at(&self.marks, atom))
-        } else {
-            None
-        }
+        is_atom(self.book.atoms(), atom).then_some(mark_at(&self.marks, atom))
     }
 
     // The entry at a position, counted from 0.

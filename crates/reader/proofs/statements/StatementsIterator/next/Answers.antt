@@ -1,10 +1,10 @@
-use Rattle.std.proofs.Common.{length, ◌∷◌, is_ok, Ok, Option, Result, sym, ap, ◌∙◌, arith}
+use Rattle.std.proofs.Common.{◌≡◌, length, [], ◌∷◌, is_ok, Ok, Option, Result, sym, ap, ◌∙◌, arith, rules}
 use denote.Ref.{Bor}
 use mathlib.Core.List.{List}
 use Prim.Native.Nat.{ℕ}
 use Rattle.reader.specs.Fill.{said_from, listed}
 use Rattle.reader.specs.Lines.{Line}
-use Rattle.reader.specs.Seen.{meant, line_to}
+use Rattle.reader.specs.Seen.{meant, line_to, statements_left}
 use Rattle.reader.specs.declared.statement.Statement.{Statement}
 use Rattle.aspif.specs.declared.error.TextError.{TextError}
 use Rattle.reader.proofs.NextLines.{says_on, says_end, says_none}
@@ -16,42 +16,38 @@ invariant_of-self c =
     let S = c.args.self.now in
     let next = c.statement.new.self in
     let text = S.cursor.text.now in
-    let line = ap {B = Result Line TextError} (λ (o : Option Statement). Ok (line_to o next.at)) (sym w.field-0-is) ∙ w.ensures.line in
+    let line = ap {B = Result Line TextError} (λ (o : Option Statement). Ok (line_to o next.at)) (sym w.field-0-is) ∙ w.ensures.tells in
     let on = says_on (length text) text S.cursor.at (meant w.statement) next.at line S.said in
     record { said = ap (λ (t : Bor (List ℕ)). is_ok (said_from (length t.now) t.now next.at)) w.ensures.same_text ∙ on.reads }
 
-pub returns-in-Ok-Some-clause-steps : goal.returns-in-Ok-Some-clause-steps
-returns-in-Ok-Some-clause-steps c =
+pub returns-clause-steps : goal.returns-clause-steps
+returns-clause-steps c =
     let w = c.in-Ok-Some in
     let S = c.args.self.now in
     let next = c.statement.new.self in
     let text = S.cursor.text.now in
-    let line = ap {B = Result Line TextError} (λ (o : Option Statement). Ok (line_to o next.at)) (sym w.field-0-is) ∙ w.ensures.line in
+    let line = ap {B = Result Line TextError} (λ (o : Option Statement). Ok (line_to o next.at)) (sym w.field-0-is) ∙ w.ensures.tells in
     let on = says_on (length text) text S.cursor.at (meant w.statement) next.at line S.said in
     let rest = on.list ∙ ap (λ (t : Bor (List ℕ)). meant w.statement ∷ listed (said_from (length t.now) t.now next.at)) (sym w.ensures.same_text) in
     rest
 
-pub returns-in-Ok-Some-clause-goes : goal.returns-in-Ok-Some-clause-goes
-returns-in-Ok-Some-clause-goes c =
+pub returns-clause-goes : goal.returns-clause-goes
+returns-clause-goes c =
     let w = c.in-Ok-Some in
     let S = c.args.self.now in
     let next = c.statement.new.self in
     let text = S.cursor.text.now in
-    let line = ap {B = Result Line TextError} (λ (o : Option Statement). Ok (line_to o next.at)) (sym w.field-0-is) ∙ w.ensures.line in
+    let line = ap {B = Result Line TextError} (λ (o : Option Statement). Ok (line_to o next.at)) (sym w.field-0-is) ∙ w.ensures.tells in
     let on = says_on (length text) text S.cursor.at (meant w.statement) next.at line S.said in
     let rest = on.list ∙ ap (λ (t : Bor (List ℕ)). meant w.statement ∷ listed (said_from (length t.now) t.now next.at)) (sym w.ensures.same_text) in
     record { on = λ _. (tt, tt, omega (arith, ap length rest)); keeps = tt; rests = λ _. tt }
 
-pub returns-in-Ok-None-clause-steps : goal.returns-in-Ok-None-clause-steps
-returns-in-Ok-None-clause-steps c =
-    let w = c.in-Ok-None in
+pub returns-in_default-clause-steps : goal.returns-in_default-clause-steps
+returns-in_default-clause-steps c =
     let S = c.args.self.now in
-    let line = ap {B = Result Line TextError} (λ (o : Option Statement). Ok (line_to o c.statement.new.self.at)) (sym w.field-0-is) ∙ w.ensures.line in
-    let none = says_end (length S.cursor.text.now) S.cursor.text.now S.cursor.at c.statement.new.self.at line in
-    (none, none)
-
-pub returns-in-Err-clause-steps : goal.returns-in-Err-clause-steps
-returns-in-Err-clause-steps c =
-    let S = c.args.self.now in
-    let none = says_none (length S.cursor.text.now) S.cursor.text.now S.cursor.at c.in-Err.field-0 c.in-Err.ensures.line in
+    let text = S.cursor.text.now in
+    let none : statements_left S ≡ [] = elim c.in_default.branch [
+      | goal.in_default-via-in-Ok+in_default w ↦ says_end (length text) text S.cursor.at c.statement.new.self.at (search rules)
+      | goal.in_default-via-in_default w ↦ says_none (length text) text S.cursor.at w.in_default.field-0 (search rules)
+    ] in
     (none, none)

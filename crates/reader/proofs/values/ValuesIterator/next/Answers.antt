@@ -19,7 +19,7 @@ pub returns-in_default-clause-steps : goal.returns-in_default-clause-steps
 returns-in_default-clause-steps c =
     let ns = c.args.self.now.rest in
     let one : ns.count ≡ suc c.in_ok-more.more = omega arith in
-    absurd (is_first ns.items ns.count c.in_ok-more.more ns.start.text.now ns.start.at one ns.reads c.in_default.field-0 c.in_default.ensures.item)
+    absurd (is_first ns.items ns.count c.in_ok-more.more ns.start.text.now ns.start.at one ns.reads c.in_default.field-0 c.in_default.ensures.tells)
 
 pub invariant_of-self : goal.invariant_of-self
 invariant_of-self c =
@@ -27,7 +27,7 @@ invariant_of-self c =
     let start = c.item.new.self in
     let more = c.in_ok-more.more in
     let one : ns.count ≡ suc more = omega arith in
-    let first = first_of ns.items ns.count more ns.start.text.now ns.start.at one ns.reads (field_to ns.start.text.now c.in-Ok.number start.at) c.in-Ok.ensures.item in
+    let first = first_of ns.items ns.count more ns.start.text.now ns.start.at one ns.reads (field_to ns.start.text.now c.in-Ok.number start.at) c.in-Ok.ensures.tells in
     record { reads = ap (λ (t : Bor (List ℕ)). is_ok (row_at ns.items more t.now start.at)) c.in-Ok.ensures.same_text ∙ first.reads }
 
 pub returns-clause-steps : goal.returns-clause-steps
@@ -36,7 +36,7 @@ returns-clause-steps c =
     let start = c.item.new.self in
     let more = c.in_ok-more.more in
     let one : ns.count ≡ suc more = omega arith in
-    let first = first_of ns.items ns.count more ns.start.text.now ns.start.at one ns.reads (field_to ns.start.text.now c.in-Ok.number start.at) c.in-Ok.ensures.item in
+    let first = first_of ns.items ns.count more ns.start.text.now ns.start.at one ns.reads (field_to ns.start.text.now c.in-Ok.number start.at) c.in-Ok.ensures.tells in
     let rest = first.values ∙ ap (λ (t : Bor (List ℕ)). c.in-Ok.number ∷ row_values (row_at ns.items more t.now start.at)) (sym c.in-Ok.ensures.same_text) in
     let fits : SFits w32 c.in-Ok.number = search rules in
     simp to_z-of_z rest
@@ -47,6 +47,6 @@ returns-clause-goes c =
     let start = c.item.new.self in
     let more = c.in_ok-more.more in
     let one : ns.count ≡ suc more = omega arith in
-    let first = first_of ns.items ns.count more ns.start.text.now ns.start.at one ns.reads (field_to ns.start.text.now c.in-Ok.number start.at) c.in-Ok.ensures.item in
+    let first = first_of ns.items ns.count more ns.start.text.now ns.start.at one ns.reads (field_to ns.start.text.now c.in-Ok.number start.at) c.in-Ok.ensures.tells in
     let rest = first.values ∙ ap (λ (t : Bor (List ℕ)). c.in-Ok.number ∷ row_values (row_at ns.items more t.now start.at)) (sym c.in-Ok.ensures.same_text) in
     record { on = λ _. (tt, tt, omega (arith, ap length rest)); keeps = tt; rests = λ _. tt }
