@@ -93,7 +93,7 @@ spaced_more [] i z e = cc
 spaced_more (y ∷ zs) zero z e = let same : y ≡ z = cc in ap (λ x. spaced (x ∷ zs)) same ∙ spaced_append (z ∷ []) zs
 spaced_more (y ∷ zs) (suc i) z e = spaced_more zs i z e ∙ simp add-one
 
--- inside the list there is an element
+-- a place without an element lies past the end
 pub none_past : (zs : List ℤ) (i : ℕ) → None ≡ slice_get zs i → length zs ≤ i
 none_past [] i e = omega arith
 none_past (y ∷ zs) zero e = let z : ◌≡◌ {A = ℕ} 0 1 = cc in absurd (omega arith)

@@ -1,18 +1,7 @@
 -- What stands at a place of a list that is made of others.
-use Rattle.std.proofs.Common.{◌≡◌, ℕ, zero, suc, ◌+◌, ◌<◌, List, [], ◌∷◌, ◌++◌, map, length, drop, Some, Option, refl, ap, ◌∙◌, add-one, arith}
+use Rattle.std.proofs.Common.{◌≡◌, ℕ, zero, suc, ◌+◌, ◌<◌, List, [], ◌∷◌, ◌++◌, map, length, drop, Some, Option, refl, ◌∙◌, add-one, arith}
 use Rattle.std.specs.List.{slice_get}
 use Rattle.std.specs.Option.{option_map}
-
-module _ {X : Type 0} where
-  pub nth_append_left : (xs ys : List X) (i : ℕ) → i < length xs → slice_get (xs ++ ys) i ≡ slice_get xs i
-  nth_append_left [] ys i h = absurd (omega arith)
-  nth_append_left (x ∷ xs) ys zero h = refl
-  nth_append_left (x ∷ xs) ys (suc i) h = nth_append_left xs ys i (omega arith)
-
-  pub nth_append_right : (xs ys : List X) (i j : ℕ) → i ≡ length xs + j → slice_get (xs ++ ys) i ≡ slice_get ys j
-  nth_append_right [] ys i j e = let h : i ≡ j = omega arith in ap (slice_get ys) h
-  nth_append_right (x ∷ xs) ys zero j e = absurd (omega arith)
-  nth_append_right (x ∷ xs) ys (suc i) j e = nth_append_right xs ys i j (omega arith)
 
 pub nth_map : {X Y : Type 0} (f : X → Y) (xs : List X) (i : ℕ) → slice_get (map f xs) i ≡ option_map f (slice_get xs i)
 nth_map f [] i = refl

@@ -1,4 +1,4 @@
--- The steps of a loop that looks for the first number that passes a test, and what it found.
+-- What it tells of numbers, and of the places of lists, that the first one that passes a test was found, or none.
 use Rattle.std.proofs.Common.{◌≡◌, ℕ, zero, suc, ◌+◌, ◌<◌, ◌≤◌, Bool, true, false, ◌||◌, cond, List, [], ◌∷◌, ◌++◌, length, Some, None, Option, is_some, sym, refl, ap, ◌∙◌, subst, inl, inr, add-zero, zero-add, arith}
 use Rattle.std.proofs.lemmas.Bool.{cases_eq, cases_lt, and_parts, and_from}
 use Rattle.std.specs.List.{AllByRecursion as Each, list_all, list_any, range_with_len, slice_get}

@@ -1,4 +1,4 @@
--- Accepted lists are the encoding of the rules that they spell out.
+-- Accepted lists are the encoding of the rules that they spell out; and names looked at one by one.
 use Rattle.std.proofs.Common.{◌≡◌, ℕ, zero, suc, ◌+◌, ◌≤◌, true, false, not, ◌&&◌, eqb, leb, List, [], ◌∷◌, ◌++◌, map, length, get_or, slice_index, take, drop, ℤ, pos, negsuc, nat_abs, is_some, is_ok, Some, None, Ok, Option, sym, refl, ap, ◌∙◌, subst, append_assoc, arith, length-append, length-drop, drop-cons, drop-drop}
 use lib.ListN.{length-map}
 use Rattle.std.proofs.lemmas.List.{drop_all, drop_more, append-nil, take-append-drop, length-take-le}

@@ -22,7 +22,7 @@ use Rattle.reader.specs.Program.{lines_of, rules_of, atoms_of, sizes_of, Fits, P
 use Rattle.reader.specs.Fill.{atom_named, name_place, name_size, NameLists, both, named_by, with_name, with_names, listed}
 use Rattle.reader.specs.Held.{Held, held_after, has_room_in}
 use Rattle.reader.specs.Read.{statements_of, room_tested, read_answer, after_read, unnamed}
-use Rattle.reader.specs.ReadLaw.{held_together, first_name, Fronts, BookOf, FillsTheBook}
+use Rattle.reader.specs.ReadLaw.{integers_together, starts_together, assumed_together, names_together, first_name, Fronts, BookOf, FillsTheBook}
 use Rattle.reader.specs.declared.pieces.Counts.{Counts}
 use Rattle.reader.proofs.NamesGiven.{shown, Told, names_told, none_named, all_in_text}
 use Rattle.reader.proofs.Programs.{reads_exactly_programs}
@@ -137,6 +137,16 @@ module _ (text : List ℕ) (ss : List Stmt) (p : Program text ss) (places length
   name_inside i h = (told i h).room.inside
 
 -- The lists as a book.
+
+-- the five lists, filled with all statements together
+abbrev held_together : List Stmt → Held → Held
+held_together ss H = record {
+  integers = integers_together ss H.integers;
+  starts = starts_together ss H.starts;
+  places = (names_together ss H.places H.lengths).starts;
+  lengths = (names_together ss H.places H.lengths).lengths;
+  assumed = assumed_together ss H.assumed;
+}
 
 module _ (text : List ℕ) (ss : List Stmt) (p : Program text ss) (old : Held) (room : Roomy (sizes_of ss) (length old.integers) (length old.starts) (length old.places) (length old.lengths) (length old.assumed)) (L : RuleLists) (f : Fronts (sizes_of ss) text (held_together ss old) L) where
   encodes : Encodes (rules_book ss) L

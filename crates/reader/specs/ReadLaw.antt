@@ -37,15 +37,6 @@ assumed_together ss xs = sets xs 0 (assumed_of ss)
 abbrev pub names_together : List Stmt → List ℕ → List ℕ → NameLists
 names_together ss places lengths = with_names (both (unnamed (atoms_of ss) places) (unnamed (atoms_of ss) lengths)) ss
 
-abbrev pub held_together : List Stmt → Held → Held
-held_together ss H = record {
-  integers = integers_together ss H.integers;
-  starts = starts_together ss H.starts;
-  places = (names_together ss H.places H.lengths).starts;
-  lengths = (names_together ss H.places H.lengths).lengths;
-  assumed = assumed_together ss H.assumed;
-}
-
 pub record SaidTogether (text : List ℕ) : Type 0 where
   pub answer : (room : Counts → Bool) → read_answer text room ≡ answer_together text room
   pub integers : (ss : List Stmt) (xs : List ℤ) → integers_after ss xs ≡ integers_together ss xs

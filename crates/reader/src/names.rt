@@ -1,5 +1,5 @@
 // The names that outputs give to atoms.
-ghost use Rattle.std.specs.Prelude.{◌≡◌, ◌<◌, length, IfSome};
+ghost use Rattle.std.specs.Prelude.{◌≡◌, ◌<◌, IfSome};
 ghost use Rattle.reader.specs.Fill.{sole_atom, atom_named, both, with_names};
 ghost use Rattle.reader.specs.Seen.{numbers_in, output_meant, statements_left};
 

@@ -39,24 +39,24 @@ impl From<Fault> for Refusal {
 impl From<TextError> for Fault {
     ghost from_gives = { λ e f. f ≡ FaultText e };
 
-    fn from(e: TextError) -> Fault {
-        Fault::Text(e)
+    fn from(e: TextError) -> Self {
+        Self::Text(e)
     }
 }
 
 impl From<BookError> for Fault {
     ghost from_gives = { λ e f. f ≡ FaultBook e };
 
-    fn from(e: BookError) -> Fault {
-        Fault::Book(e)
+    fn from(e: BookError) -> Self {
+        Self::Book(e)
     }
 }
 
 impl From<SheetError> for Fault {
     ghost from_gives = { λ e f. f ≡ FaultSheet e };
 
-    fn from(e: SheetError) -> Fault {
-        Fault::Sheet(e)
+    fn from(e: SheetError) -> Self {
+        Self::Sheet(e)
     }
 }
 
@@ -64,7 +64,7 @@ impl From<SheetError> for Fault {
 impl From<TooShort> for Fault {
     ghost from_gives = { λ _ f. f ≡ FaultSheet SheetTooShort };
 
-    fn from(_short: TooShort) -> Fault {
-        Fault::Sheet(SheetError::TooShort)
+    fn from(_short: TooShort) -> Self {
+        Self::Sheet(SheetError::TooShort)
     }
 }

@@ -1,10 +1,9 @@
-use Rattle.std.proofs.Common.{pos, ◌∷◌, ◌≡◌, ap, sym, subst, ◌∙◌, rules}
+use Rattle.std.proofs.Common.{pos, ◌∷◌, ap, sym, subst, rules}
 use Rattle.base.specs.Sinks.{Takes}
 use Rattle.base.proofs.Sinks.{takes_none}
-use Rattle.book.specs.Rules.{body_literal}
 use Rattle.aspif.specs.Integers.{literals_in, rule_of}
 use Rattle.aspif.specs.Texts.{spaced}
-use Rattle.aspif.proofs.Lines.{body_parts, literal_there, no_body}
+use Rattle.aspif.proofs.Lines.{body_parts, no_body}
 use Rattle.aspif.proofs.rules.RuleOf.put_body.Goals as goal
 
 pub returns-in_default : goal.returns-in_default

@@ -1,12 +1,10 @@
-use Rattle.std.proofs.Common.{pos, ◌∷◌, ◌≡◌, ap, sym, subst, ◌∙◌, rules}
-use Rattle.std.specs.Option.{option_map}
+use Rattle.std.proofs.Common.{pos, ◌∷◌, ap, sym, subst, rules}
 use Rattle.base.specs.Sinks.{Takes}
 use Rattle.base.proofs.Sinks.{takes_none}
 use Rattle.book.specs.Encoding.{head_type}
-use Rattle.book.specs.Rules.{head_atom}
 use Rattle.aspif.specs.Integers.{heads_in, rule_of}
 use Rattle.aspif.specs.Texts.{spaced}
-use Rattle.aspif.proofs.Lines.{head_parts, head_there, no_head, no_kind}
+use Rattle.aspif.proofs.Lines.{head_parts, no_head, no_kind}
 use Rattle.aspif.proofs.rules.RuleOf.put_head.Goals as goal
 
 pub returns-in_default : goal.returns-in_default

@@ -1,6 +1,6 @@
 use Rattle.std.proofs.Common.{sym, ap, ◌∙◌}
 use Rattle.reader.specs.Fill.{with_name, with_names}
-use Rattle.reader.specs.Seen.{meant, output_meant, statements_left}
+use Rattle.reader.specs.Seen.{meant, statements_left}
 use Rattle.reader.specs.Tables.{table}
 use Rattle.reader.proofs.Cases.{no_name}
 use Rattle.reader.proofs.names.NameTable.fill.Goals as goal
