@@ -1,5 +1,5 @@
 // One rule of a book, as its line in a text.
-ghost use Rattle.std.specs.Prelude.{◌≡◌, ◌≤◌, ℤ, List, [], ◌∷◌, length, pos};
+ghost use Rattle.std.specs.Prelude.{◌≡◌, ◌≤◌, ℤ, List, ◌∷◌, length, pos};
 ghost use Rattle.std.specs.List.{slice_get};
 ghost use Rattle.base.specs.Closures.{Computes};
 ghost use Rattle.base.specs.Sinks.{Takes};
@@ -10,13 +10,6 @@ use base::printed::Printed;
 use base::short::TooShort;
 use base::sink::Sink;
 use book::book::Book;
-
-fn put_spaced<S: Sink>(sink: &mut S, number: i64) -> Result<(), TooShort>
-    ensures { Takes S.fits S.after sink.old (spaced (number ∷ [])) result sink.new }
-{
-    sink.put(b" ")?;
-    sink.put_number(number)
-}
 
 // So many numbers, each known by its place.
 fn put_each<S: Sink, F: Fn(u32) -> Option<i64>>(
@@ -29,7 +22,7 @@ fn put_each<S: Sink, F: Fn(u32) -> Option<i64>>(
 {
     for at in 0..count {
         if let Some(n) = number(at) {
-            put_spaced(sink, n)?;
+            sink.put_spaced(n)?;
         }
     }
     Ok(())
@@ -45,8 +38,8 @@ fn put_part<S: Sink, F: Fn(u32) -> Option<i64>>(
     requires { F.IsAlwaysCallable number }
     ensures { (zs : List ℤ) → length zs ≡ count → Computes (F.post number) (slice_get zs) → Takes S.fits S.after sink.old (spaced (kind ∷ pos count ∷ zs)) result sink.new }
 {
-    put_spaced(sink, i64::from(kind))?;
-    put_spaced(sink, i64::from(count))?;
+    sink.put_spaced(i64::from(kind))?;
+    sink.put_spaced(i64::from(count))?;
     put_each(sink, count, number)
 }
 

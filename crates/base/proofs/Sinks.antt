@@ -1,5 +1,5 @@
 -- Pieces taken one after another.
-use Rattle.std.proofs.Common.{◌≡◌, ℕ, Bool, true, false, cond, List, [], ◌++◌, Ok, Err, Result, sym, refl, ap, ◌∙◌, subst, arith}
+use Rattle.std.proofs.Common.{◌≡◌, Bool, true, false, cond, List, [], ◌++◌, Ok, Err, Result, sym, refl, ap, ◌∙◌, subst}
 use Rattle.base.specs.declared.short.TooShort.{TooShort}
 use Rattle.base.specs.Sinks.{SinkLaws, Takes}
 
@@ -11,10 +11,10 @@ answered b = cond b (Ok tt) (Err (record {}))
 
 fits_by : (b : Bool) → Ok tt ≡ answered b → b ≡ true
 fits_by true e = refl
-fits_by false e = let z : ◌≡◌ {A = ℕ} 0 1 = cc in absurd (omega arith)
+fits_by false e = absurd cc
 
 short_by : (b : Bool) (x : TooShort) → Err x ≡ answered b → b ≡ false
-short_by true x e = let z : ◌≡◌ {A = ℕ} 0 1 = cc in absurd (omega arith)
+short_by true x e = absurd cc
 short_by false x e = refl
 
 not_first : (a b : Bool) → (a ≡ true → b ≡ true) → b ≡ false → a ≡ false
@@ -42,7 +42,7 @@ module _ {S X : Type 0} (fits : S → List X → Bool) (after : S → List X →
       let none = not_first (fits s (xs ++ ys)) (fits s xs) (laws.first s xs ys) short in
       record {
         tells = same ∙ sym e ∙ one.tells ∙ ap answered (short ∙ sym none);
-        taken = λ f. let z : ◌≡◌ {A = ℕ} 0 1 = cc in absurd (omega arith);
+        taken = λ f. absurd cc;
       }
 
   module _ {s t u : S} (xs ys zs : List X) (whole : zs ≡ xs ++ ys) {first r : Answer} where

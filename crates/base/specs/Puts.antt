@@ -1,5 +1,5 @@
 -- Items put at a place of a list: all of them or, where they do not fit, none.
-use Rattle.std.specs.Prelude.{ℕ, ◌+◌, Bool, cond, List, length, ℤ, pos, negsuc, Ok, Err, Result, nat_lt, slice_set}
+use Rattle.std.specs.Prelude.{ℕ, ◌+◌, Bool, cond, List, length, Ok, Err, Result, nat_lt}
 use Rattle.std.proofs.lemmas.List.Edits.{sets}
 use Rattle.base.specs.declared.short.TooShort.{TooShort}
 
@@ -14,8 +14,3 @@ put_answer room at xs = cond (too_short room at xs) (Err (record {})) (Ok (lengt
 -- the list afterwards
 abbrev pub put_into : {X : Type 0} → List X → ℕ → List X → List X
 put_into old at xs = cond (too_short (length old) at xs) old (sets old at xs)
-
--- a minus at the place, for a negative number
-abbrev pub with_sign : List ℕ → ℕ → ℤ → List ℕ
-with_sign out at (pos n) = out
-with_sign out at (negsuc n) = slice_set out at 45

@@ -1,7 +1,7 @@
 // A list filled piece by piece.
 ghost use Rattle.std.specs.Prelude.{◌≤◌, length};
 
-use crate::bytes::{put_items, put_number};
+use crate::bytes::put_items;
 use crate::short::TooShort;
 use crate::sink::Sink;
 
@@ -39,10 +39,5 @@ impl<'a> Sink for Pen<'a, u8> {
 
     fn put(&mut self, bytes: &[u8]) -> Result<(), TooShort> {
         self.put_all(bytes)
-    }
-
-    fn put_number(&mut self, n: i64) -> Result<(), TooShort> {
-        self.at += put_number(self.out, self.at, n)?;
-        Ok(())
     }
 }

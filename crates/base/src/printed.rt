@@ -30,9 +30,7 @@ pub fn print_front<P: Printed>(piece: &P, out: &mut [u8]) -> Result<usize, TooSh
     ensures result { result ≡ front_answer (P.text piece.now) (length out.old) }
     ensures buffer { out.new ≡ front_into (P.text piece.now) out.old }
 {
-    let Some(size) = printed_size(piece, out.len()) else {
-        return Err(TooShort);
-    };
+    let size = printed_size(piece, out.len()).ok_or(TooShort)?;
     let mut pen = Pen { out, at: 0 };
     piece.print(&mut pen)?;
     Ok(size)

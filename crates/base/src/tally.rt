@@ -1,7 +1,6 @@
 // How many bytes pieces have together.
 ghost use Rattle.std.specs.Prelude.{◌≤◌};
 
-use crate::bytes::number_size;
 use crate::short::TooShort;
 use crate::sink::Sink;
 
@@ -41,9 +40,5 @@ impl Sink for Tally {
 
     fn put(&mut self, bytes: &[u8]) -> Result<(), TooShort> {
         self.add(bytes.len())
-    }
-
-    fn put_number(&mut self, n: i64) -> Result<(), TooShort> {
-        self.add(number_size(n))
     }
 }

@@ -7,7 +7,7 @@ use Rattle.book.specs.declared.kind.Kind.{Kind}
 use Rattle.book.specs.declared.kind.Kind.TheVariants.{Plain, Choice}
 
 pub all_nth : {X : Type 0} (P : X → Type 0) (xs : List X) (i : ℕ) (x : X) → Each P xs → Some x ≡ slice_get xs i → P x
-all_nth P [] i x h e = let z : ◌≡◌ {A = ℕ} 0 1 = cc in absurd (omega arith)
+all_nth P [] i x h e = absurd cc
 all_nth P (y ∷ xs) zero x h e = let s : y ≡ x = cc in subst P s h.0
 all_nth P (y ∷ xs) (suc i) x h e = all_nth P xs i x h.1 e
 
@@ -27,7 +27,7 @@ lawful_in n (ρ ∷ ρs) (suc i) l = lawful_in n ρs i l.1
 
 -- a literal of such a rule is one of the book
 literal_in : (n : ℕ) (o : Option Rule) (at : ℕ) (z : ℤ) → LawfulIn n o → Some z ≡ body_literal o at → Literal n z
-literal_in n None at z l e = let s : ◌≡◌ {A = ℕ} 0 1 = cc in absurd (omega arith)
+literal_in n None at z l e = absurd cc
 literal_in n (Some ρ) at z l e = all_nth (Literal n) ρ.body at z l.literals e
 
 module _ (R : Rules) (l : Lawful R) (rule : ℕ) where

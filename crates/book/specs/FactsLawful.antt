@@ -11,7 +11,7 @@ use Rattle.base.proofs.Verdicts.{ok_unless}
 use Rattle.book.specs.declared.error.BookError.TheVariants.{TooManyAtoms}
 
 none_after : (o : Option ℕ) → is_ok (after_facts o) ≡ true → o ≡ None
-none_after (Some i) h = let z : ◌≡◌ {A = ℕ} 0 1 = cc in absurd (omega arith)
+none_after (Some i) h = absurd cc
 none_after None h = refl
 
 fact_lawful : (n a : ℕ) → Atom n a → LawfulRule n (fact_rule a)

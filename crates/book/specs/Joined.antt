@@ -1,6 +1,6 @@
 -- Two books joined: the rules of the first and then those of the second.
 use Rattle.std.specs.Prelude.{ℕ, ◌+◌, max, Bool, cond, List, ◌++◌, length, None, Some, Option, nat_le}
-use Rattle.base.specs.Search.{or_else}
+use Rattle.std.specs.Option.{option_or}
 use Rattle.book.specs.Rules.{Rule, Rules, no_rules, rule_at}
 use Rattle.book.specs.declared.place.Place.{Place}
 use Rattle.book.specs.declared.place.Place.TheVariants.{First, Second}
@@ -17,7 +17,7 @@ joined R S = cond (fit_together R S) (both R S) no_rules
 
 -- the first book's name of an atom, or else the second's
 abbrev pub joined_name : Rules → Rules → Option (List ℕ) → Option (List ℕ) → Option (List ℕ)
-joined_name R S first second = cond (fit_together R S) (or_else first second) None
+joined_name R S first second = cond (fit_together R S) (option_or first second) None
 
 -- the rule that a place in one of the two books stands for, if there is one
 abbrev pub rule_in : Rules → Rules → Place → Option Rule

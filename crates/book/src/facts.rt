@@ -18,7 +18,7 @@ fn is_sound_fact(atoms: u32, facts: &[u32], i: usize) -> bool
     i < 2048 && 1 <= facts[i] && facts[i] <= atoms
 }
 
-// By its place, since past the limit any fact is faulty.
+// By its place, since past the limit any fact is faulty. (With `enumerate` each closure would take a pair apart.)
 fn first_faulty_fact(atoms: u32, facts: &[u32]) -> Option<u32>
     ensures { result ≡ first_faulty_fact atoms facts.now }
 {

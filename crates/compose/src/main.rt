@@ -1,7 +1,7 @@
 // Prints the program text of one invoice: its standing rules, and what was delivered today.
 #![tactic(auto)]
 
-use anyhow::anyhow;
+use anyhow::{Context, bail};
 use numbers::lists::{Names, RuleLists};
 use report::composing::compose;
 use report::fault::Fault;
@@ -48,34 +48,30 @@ fn standing(starts: &[u32]) -> RuleLists<'_> {
 
 // The text or, in its place, the line that tells why there is none.
 fn text_or_refusal(starts: &[u32], out: &mut [u8]) -> Result<usize, Fault> {
-    match compose(standing(starts), &FACTS, out) {
-        Ok(size) => Ok(size),
-        Err(fault) => tell(&fault, out),
-    }
+    compose(standing(starts), &FACTS, out).or_else(|fault| tell(&fault, out))
 }
 
 fn show(rt: &HostRuntime, starts: &[u32]) -> anyhow::Result<()> {
     let mut out = vec![in rt.alloc(); 0u8; ROOM]?;
-    let Ok(size) = text_or_refusal(starts, &mut out) else {
-        return Err(anyhow!("no room for the line that tells the refusal"));
-    };
+    let size = text_or_refusal(starts, &mut out)
+        .ok()
+        .context("no room for the line that tells the refusal")?;
     out.truncate(size);
     rt.stdout().write_all(&out)?;
     Ok(())
 }
 
 fn run(rt: &HostRuntime) -> anyhow::Result<()> {
-    let mut shown = false;
-    for word in env::args(rt)?.skip(1) {
-        shown = true;
+    let mut words = env::args(rt)?.skip(1).peekable();
+    if words.peek().is_none() {
+        return show(rt, &STARTS);
+    }
+    for word in words {
         match word.as_str() {
             "invoice" => show(rt, &STARTS)?,
             "refused" => show(rt, &WRONG_STARTS)?,
-            _ => return Err(anyhow!("usage: compose [invoice] [refused]")),
+            _ => bail!("usage: compose [invoice] [refused]"),
         }
-    }
-    if !shown {
-        show(rt, &STARTS)?;
     }
     Ok(())
 }

@@ -2,7 +2,7 @@
 // the text, and NAME.rules, its rules as they have to come out, or the line of the refusal.
 #![tactic(auto)]
 
-use anyhow::anyhow;
+use anyhow::bail;
 use reader::lists::Lists;
 use report::rewriting::rewrite_or_tell;
 use std::fs;
@@ -27,7 +27,8 @@ fn is_as_known(rt: &HostRuntime, name: &str) -> anyhow::Result<bool> {
     let text = fs::read(rt, format!(in heap; "{name}.aspif")?)?;
     let known = fs::read(rt, format!(in heap; "{name}.rules")?)?;
     let mut out = vec![in heap; 0u8; ROOM]?;
-    // Room for every text that can be read. A call that lends five lists of what it owns would owe a promise for each.
+    // Room for every text that can be read. A function that makes the lists and gives the text back would be a call more,
+    // which can fail for want of memory, to save these lines in two programs.
     let mut integers = vec![in heap; 0i32; 16_384]?;
     let mut starts = vec![in heap; 0u32; 2048]?;
     let mut places = vec![in heap; 0u32; 1024]?;
@@ -62,7 +63,7 @@ fn run(rt: &HostRuntime) -> anyhow::Result<()> {
     let compared = names.len();
     println!(rt; "{compared} compared, {differing} different")?;
     if differing > 0 {
-        return Err(anyhow!("an output is not as known"));
+        bail!("an output is not as known");
     }
     Ok(())
 }

@@ -53,10 +53,8 @@ impl Lists {
     }
 
     pub(crate) fn repeat(&mut self, integer: i32, times: u16) -> Result<(), AllocError> {
-        for _ in 0..times {
-            self.integers.push(integer)?;
-        }
-        Ok(())
+        let len = self.integers.len().saturating_add(usize::from(times));
+        self.integers.resize(len, integer)
     }
 
     // So many constraints more, each with so many times the same literal.

@@ -21,21 +21,21 @@ type_back : (z : ℤ) → within 0 1 z ≡ true → head_type (kind_from z) ≡ 
 type_back (pos zero) h = refl
 type_back (pos (suc zero)) h = refl
 type_back (pos (suc (suc n))) h = let l = leb-true (suc (suc n)) 1 (and_parts (leb 0 (suc (suc n))) (leb (suc (suc n)) 1) h).1 in absurd (omega arith)
-type_back (negsuc n) h = let z : ◌≡◌ {A = ℕ} 0 1 = cc in absurd (omega arith)
+type_back (negsuc n) h = absurd cc
 
 count_back : (high : ℕ) (z : ℤ) → within 0 high z ≡ true → pos (count z) ≡ z
 count_back high (pos n) h = refl
-count_back high (negsuc n) h = let z : ◌≡◌ {A = ℕ} 0 1 = cc in absurd (omega arith)
+count_back high (negsuc n) h = absurd cc
 
 zero_back : (z : ℤ) → within 0 0 z ≡ true → pos 0 ≡ z
 zero_back (pos n) h = let l = leb-true n 0 (and_parts (leb 0 n) (leb n 0) h).1 in let e : 0 ≡ n = omega arith in ap pos e
-zero_back (negsuc n) h = let z : ◌≡◌ {A = ℕ} 0 1 = cc in absurd (omega arith)
+zero_back (negsuc n) h = absurd cc
 
 -- integers that are atoms, as atoms and back
 pub heads_back : (n : ℕ) (zs : List ℤ) → list_all (within 1 n) zs ≡ true → map pos (map nat_abs zs) ≡ zs
 heads_back n [] h = refl
 heads_back n (pos k ∷ zs) h = ap (λ t. pos k ∷ t) (heads_back n zs (and_parts (within 1 n (pos k)) (list_all (within 1 n) zs) h).1)
-heads_back n (negsuc k ∷ zs) h = let z : ◌≡◌ {A = ℕ} 0 1 = cc in absurd (omega arith)
+heads_back n (negsuc k ∷ zs) h = absurd cc
 
 -- two integers, a part of as many as the second counts, and the rest
 cut : (xs : List ℤ) (s n : ℕ) → s + 2 + n ≤ length xs → drop s xs ≡ integer_at xs s ∷ integer_at xs (s + 1) ∷ (take n (drop (s + 2) xs) ++ drop (s + 2 + n) xs)
@@ -112,7 +112,7 @@ module _ (L : RuleLists) (none : first_faulty L ≡ None) where
 
 none_there : {X : Type 0} (o : Option X) → is_some o ≡ false → o ≡ None
 none_there None h = refl
-none_there (Some x) h = let z : ◌≡◌ {A = ℕ} 0 1 = cc in absurd (omega arith)
+none_there (Some x) h = absurd cc
 
 names_inside : (n : ℕ) (N : Names) → names_fit n N ≡ true → NamesInside n N
 names_inside n N h =
@@ -143,8 +143,8 @@ accepted_encodes L ok =
 
 -- two lists side by side, at a place
 zip_there : (xs ys : List ℕ) (i : ℕ) (p : ℕ × ℕ) → Some p ≡ slice_get (zip xs ys) i → (slice_index xs i ≡ p.0) × (slice_index ys i ≡ p.1)
-zip_there [] ys i p e = let z : ◌≡◌ {A = ℕ} 0 1 = cc in absurd (omega arith)
-zip_there (x ∷ xs) [] i p e = let z : ◌≡◌ {A = ℕ} 0 1 = cc in absurd (omega arith)
+zip_there [] ys i p e = absurd cc
+zip_there (x ∷ xs) [] i p e = absurd cc
 zip_there (x ∷ xs) (y ∷ ys) zero p e = let same : (x, y) ≡ p = cc in (ap (λ q. q.0) same, ap (λ q. q.1) same)
 zip_there (x ∷ xs) (y ∷ ys) (suc i) p e = zip_there xs ys i p e
 

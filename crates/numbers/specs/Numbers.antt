@@ -25,25 +25,36 @@ kind_from (pos zero) = Plain
 kind_from (pos (suc n)) = Choice
 kind_from (negsuc n) = Choice
 
+-- a part of a rule, at the place of its type: a type, a count, and so many integers
+
+abbrev pub part_count : List ℤ → ℕ → ℕ
+part_count xs at = count (integer_at xs (at + 1))
+
+abbrev pub part_at : List ℤ → ℕ → List ℤ
+part_at xs at = take (part_count xs at) (drop (at + 2) xs)
+
+abbrev pub part_end : List ℤ → ℕ → ℕ
+part_end xs at = at + 2 + part_count xs at
+
 abbrev pub head_count : List ℤ → ℕ → ℕ
-head_count xs s = count (integer_at xs (s + 1))
+head_count xs s = part_count xs s
 
 abbrev pub head_part : List ℤ → ℕ → List ℤ
-head_part xs s = take (head_count xs s) (drop (s + 2) xs)
+head_part xs s = part_at xs s
 
 -- where the body type stands
 abbrev pub body_start : List ℤ → ℕ → ℕ
-body_start xs s = s + 2 + head_count xs s
+body_start xs s = part_end xs s
 
 abbrev pub body_count : List ℤ → ℕ → ℕ
-body_count xs s = count (integer_at xs (body_start xs s + 1))
+body_count xs s = part_count xs (body_start xs s)
 
 abbrev pub body_part : List ℤ → ℕ → List ℤ
-body_part xs s = take (body_count xs s) (drop (body_start xs s + 2) xs)
+body_part xs s = part_at xs (body_start xs s)
 
 -- where the next rule starts
 abbrev pub rule_end : List ℤ → ℕ → ℕ
-rule_end xs s = body_start xs s + 2 + body_count xs s
+rule_end xs s = part_end xs (body_start xs s)
 
 abbrev pub rule_from : List ℤ → ℕ → Rule
 rule_from xs s = record { kind = kind_from (integer_at xs s); head = map unsigned_abs (head_part xs s); body = body_part xs s }

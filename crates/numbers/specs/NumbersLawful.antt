@@ -14,7 +14,7 @@ use Rattle.numbers.specs.declared.lists.RuleLists.{RuleLists}
 
 pub within_atom : (n : ℕ) (z : ℤ) → within 1 n z ≡ true → Atom n (unsigned_abs z)
 within_atom n (pos k) h = let b = and_parts (nat_le 1 k) (nat_le k n) h in (leb-true 1 k b.0, leb-true k n b.1)
-within_atom n (negsuc k) h = let z : ◌≡◌ {A = ℕ} 0 1 = cc in absurd (omega arith)
+within_atom n (negsuc k) h = absurd cc
 
 pub is_literal_lem : (n : ℕ) (z : ℤ) → is_literal n z ≡ true → Literal n z
 is_literal_lem n z h = let b = and_parts (nat_le 1 (unsigned_abs z)) (nat_le (unsigned_abs z) n) h in (leb-true 1 (unsigned_abs z) b.0, leb-true (unsigned_abs z) n b.1)
@@ -66,7 +66,7 @@ pub record Accepted (L : RuleLists) : Type 0 where
   pub rest : rest_fits L ≡ true
 
 accepted_after : (o : Option ℕ) (L : RuleLists) → is_ok (after_rules o L) ≡ true → (o ≡ None) × (rest_fits L ≡ true)
-accepted_after (Some i) L h = let z : ◌≡◌ {A = ℕ} 0 1 = cc in absurd (omega arith)
+accepted_after (Some i) L h = absurd cc
 accepted_after None L h = (refl, ok_where (rest_fits L) tt (FaultyRest (length L.starts.now)) h)
 
 pub accepted_parts : (L : RuleLists) → is_ok (numbers_verdict L) ≡ true → Accepted L

@@ -7,7 +7,7 @@ ghost use Rattle.numbers.specs.NumbersLaw.{Encodes};
 ghost use Rattle.numbers.specs.Numbers.{rule_from, numbers_verdict, spelled, numbers_book, name_in, numbers_name};
 ghost use Rattle.numbers.specs.NumbersLawful.{accepted_lawful};
 
-use crate::lists::{Names, RuleLists};
+use crate::lists::RuleLists;
 use crate::rule::RuleAt;
 use base::parts::{item, item_or, part};
 use book::book::{Book, NamedBook};
@@ -27,20 +27,12 @@ impl<'a> NumbersBook<'a> {
         ensures decodes { (R : Rules) → Lawful R → Encodes R lists.entry → spelled result.lists ≡ R }
     {
         if lists.check().is_ok() {
-            return NumbersBook { lists };
+            NumbersBook { lists }
+        } else {
+            NumbersBook {
+                lists: RuleLists::default(),
+            }
         }
-        let names = Names {
-            text: &[],
-            starts: &[],
-            lengths: &[],
-        };
-        let none = RuleLists {
-            atoms: 0,
-            integers: &[],
-            starts: &[],
-            names,
-        };
-        NumbersBook { lists: none }
     }
 
     // The rule at a place, if there is one.

@@ -1,23 +1,22 @@
 // One rule among the integers: where its parts lie, and whether they keep the limits.
 ghost use Rattle.std.specs.Prelude.{◌≡◌, ◌+◌, ◌^◌, ◌<◌, length};
 ghost use Rattle.std.specs.List.{list_all};
-ghost use Rattle.numbers.specs.Numbers.{integer_at, count as counted, kind_from, head_part, body_start, body_part, rule_end, within, is_literal, sound_counts, sound_rule};
+ghost use Rattle.numbers.specs.Numbers.{integer_at, count as counted, kind_from, part_at, part_end, head_part, body_start, body_part, rule_end, within, is_literal, sound_counts, sound_rule};
 
 use base::parts::{item_or, part};
 use book::kind::Kind;
 
-fn count(z: i32) -> usize
-    ensures value { result ≡ counted z }
-    ensures bound { result < 2 ^ 31 }
+fn count(z: i32) -> u32
+    ensures { result ≡ counted z }
 {
-    usize::try_from(z).unwrap_or(0)
+    u32::try_from(z).unwrap_or(0)
 }
 
 // Every integer is taken for a kind, since the look-ups answer whatever the lists hold.
 fn kind_from(z: i32) -> Kind
     ensures { result ≡ kind_from z }
 {
-    if z == 0 { Kind::Plain } else { Kind::Choice }
+    Kind::try_from(z).unwrap_or(Kind::Choice)
 }
 
 fn is_within(z: i32, low: u32, high: u32) -> bool
@@ -53,46 +52,52 @@ impl<'a> RuleAt<'a> {
         kind_from(self.integer(self.start as usize))
     }
 
-    // How many integers a part has whose type stands at a place.
-    fn count_after(&self, at: usize) -> usize
+    // The integers of the part whose type stands at a place: a type, a count, and so many integers.
+    fn part_at(&self, at: usize) -> &'a [i32]
         requires { at < 2 ^ 34 }
-        ensures value { result ≡ counted (integer_at self.now.integers.now (at + 1)) }
-        ensures bound { result < 2 ^ 31 }
+        ensures part { result.now ≡ part_at self.now.integers.now at }
+        ensures bound { length result.now < 2 ^ 32 }
     {
-        count(self.integer(at + 1))
+        let size = count(self.integer(at + 1));
+        part(self.integers, at + 2, size as usize)
+    }
+
+    // Where such a part ends.
+    fn part_end(&self, at: usize) -> usize
+        requires { at < 2 ^ 34 }
+        ensures place { result ≡ part_end self.now.integers.now at }
+        ensures bound { result < at + 2 ^ 33 }
+    {
+        at + 2 + count(self.integer(at + 1)) as usize
     }
 
     pub(crate) fn head(&self) -> &'a [i32]
         ensures part { result.now ≡ head_part self.now.integers.now self.now.start }
-        ensures bound { length result.now < 2 ^ 31 }
+        ensures bound { length result.now < 2 ^ 32 }
     {
-        let from = self.start as usize;
-        part(self.integers, from + 2, self.count_after(from))
+        self.part_at(self.start as usize)
     }
 
     // Where the body type stands.
     fn body_start(&self) -> usize
         ensures place { result ≡ body_start self.now.integers.now self.now.start }
-        ensures bound { result < 2 ^ 33 }
+        ensures bound { result < 2 ^ 34 }
     {
-        let from = self.start as usize;
-        from + 2 + self.count_after(from)
+        self.part_end(self.start as usize)
     }
 
     pub(crate) fn body(&self) -> &'a [i32]
         ensures part { result.now ≡ body_part self.now.integers.now self.now.start }
-        ensures bound { length result.now < 2 ^ 31 }
+        ensures bound { length result.now < 2 ^ 32 }
     {
-        let from = self.body_start();
-        part(self.integers, from + 2, self.count_after(from))
+        self.part_at(self.body_start())
     }
 
     // Where the next rule starts.
     pub(crate) fn end(&self) -> usize
         ensures { result ≡ rule_end self.now.integers.now self.now.start }
     {
-        let from = self.body_start();
-        from + 2 + self.count_after(from)
+        self.part_end(self.body_start())
     }
 
     fn has_sound_counts(&self) -> bool

@@ -1,5 +1,5 @@
 -- What was written for a book reads back as its rules.
-use Rattle.std.proofs.Common.{◌≡◌, ℕ, ◌+◌, ◌≤◌, Bool, true, false, cond, ◌||◌, ltb, List, [], ◌∷◌, ◌++◌, map, length, take, nat_abs, is_ok, Ok, Err, sym, refl, ap, ◌∙◌, arith}
+use Rattle.std.proofs.Common.{◌≡◌, ℕ, ◌+◌, ◌≤◌, Bool, true, false, cond, ◌||◌, ltb, List, [], ◌∷◌, ◌++◌, map, length, take, is_ok, Ok, Err, sym, refl, ap, ◌∙◌, arith}
 use Rattle.std.specs.List.{AllByRecursion as Each}
 use Rattle.std.proofs.ByRecursion.{All-weaker}
 use Rattle.std.proofs.lemmas.List.{take_at}
@@ -36,13 +36,10 @@ all_placed : (at : ℕ) (ρs : List Rule) → AllPlaced at (map rule ρs)
 all_placed at [] = tt
 all_placed at (ρ ∷ ρs) = (tt, all_placed (at + length (line_of (rule ρ))) ρs)
 
-more_atoms : (n m : ℕ) → n ≤ m → (a : ℕ) → Atom n a → Atom m a
-more_atoms n m l a h = (h.0, omega (arith, h.1))
-
-pub rule_over_more : (n m : ℕ) → n ≤ m → (ρ : Rule) → LawfulRule n ρ → LawfulRule m ρ
+rule_over_more : (n m : ℕ) → n ≤ m → (ρ : Rule) → LawfulRule n ρ → LawfulRule m ρ
 rule_over_more n m l ρ h = record {
-  heads = All-weaker (Atom n) (Atom m) (more_atoms n m l) ρ.head h.heads;
-  literals = All-weaker (Literal n) (Literal m) (λ z. more_atoms n m l (nat_abs z)) ρ.body h.literals;
+  heads = All-weaker (Atom n) (Atom m) (λ a p. (p.0, omega arith)) ρ.head h.heads;
+  literals = All-weaker (Literal n) (Literal m) (λ z p. (p.0, omega arith)) ρ.body h.literals;
   short_head = h.short_head;
   short_body = h.short_body;
 }

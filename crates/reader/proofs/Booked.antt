@@ -5,7 +5,7 @@ use Rattle.std.specs.List.{AllByRecursion as Each}
 use Rattle.std.proofs.ByRecursion.{All-append}
 use Rattle.std.proofs.lemmas.List.{take_at, length-take-le, length-set, length-replicate, get_or-replicate, get_or_append_left, get_or-take, get_or_past}
 use Rattle.std.proofs.lemmas.Bool.{cases_lt, cond-true, cond-false, cond_both}
-use Rattle.base.specs.Search.{or_else}
+use Rattle.std.specs.Option.{option_or}
 use Rattle.base.proofs.Puts.{sets_front}
 use Rattle.book.specs.Rules.{Rules, Atom, Literal, LawfulRule, Lawful}
 use Rattle.book.specs.Encoding.{encode, starts_from}
@@ -125,7 +125,7 @@ module _ (text : List ℕ) (ss : List Stmt) (p : Program text ss) (places length
   none_before i h = cond-false (ltb 0 (get_or before.lengths i 0)) _ _ (ap (ltb 0) (cleared (atoms_of ss) lengths i h wide))
 
   pub first_shown : (i : ℕ) → i < atoms_of ss → shown text after i ≡ first_name (suc i) ss
-  first_shown i h = (told i h).told ∙ ap (λ o. or_else o (first_name (suc i) ss)) (none_before i h)
+  first_shown i h = (told i h).told ∙ ap (λ o. option_or o (first_name (suc i) ss)) (none_before i h)
 
   pub starts_wide : atoms_of ss ≤ length after.starts
   starts_wide = omega (arith, (names_long before ss).0, length-sets places 0 (replicate (atoms_of ss) 0))
@@ -199,9 +199,6 @@ module _ (text : List ℕ) (ss : List Stmt) (p : Program text ss) (old : Held) (
   }
 
 -- From the answer of a reading to the book.
-
-pub as_before : {X : Type 0} (r : Result Counts TextError) (x : TextError) (new old : X) → r ≡ Err x → old ≡ after_read r new old
-as_before r x new old e = sym (ap (λ q. after_read q new old) e)
 
 record Answered (text : List ℕ) (room : Counts → Bool) (C : Counts) (ss : List Stmt) : Type 0 where
   saying : statements_of text ≡ Ok ss

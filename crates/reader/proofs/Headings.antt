@@ -8,7 +8,7 @@ use Rattle.reader.specs.Scan.{nothing, statements_from}
 
 begins_long : (xs ys : List ℕ) → begins xs ys ≡ true → length xs ≤ length ys
 begins_long [] ys h = omega arith
-begins_long (x ∷ xs) [] h = let z : ◌≡◌ {A = ℕ} 0 1 = cc in absurd (omega arith)
+begins_long (x ∷ xs) [] h = absurd cc
 begins_long (x ∷ xs) (y ∷ ys) h = omega (arith, begins_long xs ys (and_parts (eqb y x) (begins xs ys) h).1)
 
 module _ (text : List ℕ) where

@@ -7,13 +7,14 @@ use Rattle.std.proofs.lemmas.Fmt.{decimal_digit}
 use Rattle.std.proofs.ByRecursion.{All-map}
 use Rattle.std.proofs.lemmas.List.{drop-drop, drop_more, take-append-drop, length-take-le}
 use Rattle.std.proofs.lemmas.List.Sums.{prefix_len-le-length}
-use Rattle.std.proofs.lemmas.Bool.{and_parts, cond-true, cond-false, cond_both, ltb-true, eqb-true, eqb-false}
+use Rattle.std.proofs.lemmas.Bool.{cond-true, cond-false, cond_both, ltb-true, eqb-true, eqb-false}
 use Rattle.std.proofs.lemmas.Bool.Decides.{nat_tests}
 use Rattle.base.proofs.Search.{every_all}
 use Rattle.book.specs.Rules.{Rule, Atom, Literal}
 use Rattle.book.specs.Encoding.{head_type}
 use Rattle.numbers.specs.Numbers.{within, is_literal}
 use Rattle.numbers.specs.NumbersLawful.{within_atom, is_literal_lem}
+use Rattle.numbers.proofs.Spelled.{heads_back}
 use Rattle.aspif.specs.Texts.{closing, spaced}
 use Rattle.aspif.specs.declared.error.TextError.TheVariants.{Malformed, Unsupported, UnexpectedEnd}
 use Rattle.reader.specs.Fields.{field_at}
@@ -44,15 +45,6 @@ LineSays text at (said s end) = Stands text at s end
 literals_fit : (zs : List ℤ) → list_all (is_literal 1024) zs ≡ true → Each (Literal 1024) zs
 literals_fit zs h = every_all (is_literal 1024) (Literal 1024) (is_literal_lem 1024) zs h
 
--- head atoms have no minus
-positive_by : (z : ℤ) → within 1 1024 z ≡ true → pos (nat_abs z) ≡ z
-positive_by (pos n) h = refl
-positive_by (negsuc n) h = let no : ◌≡◌ {A = ℕ} 0 1 = cc in absurd (omega arith)
-
-positive : (zs : List ℤ) → list_all (within 1 1024) zs ≡ true → map pos (map nat_abs zs) ≡ zs
-positive [] h = refl
-positive (z ∷ zs) h = let p = and_parts (within 1 1024 z) (list_all (within 1 1024) zs) h in ap (◌∷ map pos (map nat_abs zs)) (positive_by z p.0) ∙ ap (z ∷◌) (positive zs p.1)
-
 module _ (text : List ℕ) (from at : ℕ) (two : at ≡ from + 2) where
   assumption_says : drop from text ≡ 54 ∷ (32 ∷ drop at text) → IfOk (assumption_at text at) (LineSays text from)
   unfolding assumption_at
@@ -67,7 +59,7 @@ module _ (text : List ℕ) (from at : ℕ) (two : at ≡ from + 2) where
   rule_stands : drop from text ≡ 49 ∷ (32 ∷ drop at text) → (h : Headed) → HeadTypeSays text at h → (hs : Row) → CountedSays (count.Heads h.kind) text h.next hs → (n : ℕ) → BodyTypeSays text hs.next n → (bs : Row) → CountedSays count.Literals text n bs → IfOk (rule_of h.kind hs bs) (LineSays text from)
   rule_stands e h type hs heads n zero_type bs body =
       let ρ : Rule = record { kind = h.kind; head = map nat_abs hs.values; body = bs.values } in
-      let same : hs.values ≡ map pos (map nat_abs hs.values) = sym (positive hs.values heads.fits) in
+      let same : hs.values ≡ map pos (map nat_abs hs.values) = sym (heads_back 1024 hs.values heads.fits) in
       let size : length (map nat_abs hs.values) ≡ length hs.values = length-map hs.values nat_abs in
       let after = drop bs.next text in
       let tail = 32 ∷ (decimal 0 ++ (32 ∷ counted_bytes bs.values after)) in

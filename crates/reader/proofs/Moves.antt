@@ -7,6 +7,7 @@ use Rattle.reader.specs.Fields.{and_then, formed, follows, minus_at, digits_from
 use Rattle.reader.specs.Rows.{allowed, after_item, item_at, Row, before, row_at, row_values}
 use Rattle.reader.specs.declared.pieces.After.{After}
 use Rattle.reader.specs.declared.pieces.Items.{Items}
+use Rattle.reader.proofs.RowValues.{before_ok}
 
 -- a number ends after where it began, and before the end of the text
 abbrev Moves : ℕ → ℕ → Result Field TextError → Type 0
@@ -34,13 +35,9 @@ item_moves : (items : Items) (more : ℕ) (text : List ℕ) (at : ℕ) → Moves
 unfolding item_at
 item_moves items more text at = then_moves at (length text) (allowed items) _ (field_at (after_item items more) text at) (field_moves (after_item items more) text at)
 
-ok_under : (z : ℤ) (r : Result Row TextError) → is_ok (before z r) ≡ true → is_ok r ≡ true
-ok_under z (Ok r) h = refl
-ok_under z (Err e) h = h
-
 then_few : (n at end : ℕ) (s : Result Field TextError) (k : ℕ → Result Row TextError) → Moves at end s → ((b : ℕ) → b ≤ end → is_ok (k b) ≡ true → b + n ≤ end) → is_ok (and_then s (λ f. before f.value (k f.next))) ≡ true → at + suc n ≤ end
-then_few n at end (Ok f) k h go o = omega (arith, go f.next h.1 (ok_under f.value (k f.next) o))
-then_few n at end (Err e) k h go o = let y : ◌≡◌ {A = ℕ} 0 1 = cc in absurd (omega arith)
+then_few n at end (Ok f) k h go o = omega (arith, go f.next h.1 (before_ok f.value (k f.next) o).0)
+then_few n at end (Err e) k h go o = absurd cc
 
 -- a row has no more numbers than there are bytes
 pub row_few : (items : Items) (n : ℕ) (text : List ℕ) (at : ℕ) → at ≤ length text → is_ok (row_at items n text at) ≡ true → at + n ≤ length text

@@ -3,7 +3,7 @@ use Rattle.std.proofs.Common.{◌≡◌, ℕ, zero, suc, ◌+◌, ◌-◌, ◌<�
 use Rattle.std.specs.List.{AllByRecursion as Each}
 use Rattle.std.proofs.lemmas.List.{length-set, get_or-set_same, get_or-set_other, take_at}
 use Rattle.std.proofs.lemmas.Bool.{cases_Bool, cases_lt, cond-true, cond-false, cond_both, eqb-true, eqb-false, eq-eqb, ne_eqb, lt-ltb}
-use Rattle.base.specs.Search.{or_else}
+use Rattle.std.specs.Option.{option_or}
 use Rattle.aspif.specs.Texts.{closing}
 use Rattle.reader.specs.Statements.{Stmt, rule, output, assumption, skipped, greatest, greatest_in}
 use Rattle.reader.specs.Program.{before_name, counted, line_of, lines_of, Placed, AllPlaced, atoms_of}
@@ -28,25 +28,25 @@ pub record Named (s : Stmt) (a : ℕ) : Type 0 where
   pub some : 0 < name_size s
 
 sole_is : (zs : List ℤ) (a : ℕ) → sole_atom zs ≡ Some a → (0 < a) × (a ≤ greatest (map nat_abs zs))
-sole_is [] a e = let z : ◌≡◌ {A = ℕ} 0 1 = cc in absurd (omega arith)
-sole_is (pos zero ∷ []) a e = let z : ◌≡◌ {A = ℕ} 0 1 = cc in absurd (omega arith)
+sole_is [] a e = absurd cc
+sole_is (pos zero ∷ []) a e = absurd cc
 sole_is (pos (suc n) ∷ []) a e = let same : suc n ≡ a = cc in (omega arith, omega arith)
-sole_is (negsuc n ∷ []) a e = let z : ◌≡◌ {A = ℕ} 0 1 = cc in absurd (omega arith)
-sole_is (y ∷ z ∷ zs) a e = let u : ◌≡◌ {A = ℕ} 0 1 = cc in absurd (omega arith)
+sole_is (negsuc n ∷ []) a e = absurd cc
+sole_is (y ∷ z ∷ zs) a e = absurd cc
 
 not_empty : (b : Bool) (zs : List ℤ) (a : ℕ) → cond b None (sole_atom zs) ≡ Some a → (b ≡ false) × (sole_atom zs ≡ Some a)
-not_empty true zs a e = let z : ◌≡◌ {A = ℕ} 0 1 = cc in absurd (omega arith)
+not_empty true zs a e = absurd cc
 not_empty false zs a e = (refl, e)
 
 named_is : (s : Stmt) (a : ℕ) → atom_named s ≡ Some a → Named s a
-named_is (rule ρ) a e = let z : ◌≡◌ {A = ℕ} 0 1 = cc in absurd (omega arith)
+named_is (rule ρ) a e = absurd cc
 named_is (output place name zs) a e =
     let t = not_empty (eqb (length name) 0) zs a e in
     let sole = sole_is zs a t.1 in
     let some : 0 < length name = elim (cases_lt 0 (length name)) [ inl above ↦ above | inr none ↦ absurd (eqb-false (length name) 0 t.0 (omega arith)) ] in
     record { above = sole.0; under = sole.1; some = some }
-named_is (assumption zs) a e = let z : ◌≡◌ {A = ℕ} 0 1 = cc in absurd (omega arith)
-named_is (skipped kind rest) a e = let z : ◌≡◌ {A = ℕ} 0 1 = cc in absurd (omega arith)
+named_is (assumption zs) a e = absurd cc
+named_is (skipped kind rest) a e = absurd cc
 
 module _ (text : List ℕ) (i : ℕ) where
   -- the lists have an item for the atom, and its name, if it has one, lies inside the text
@@ -58,12 +58,12 @@ module _ (text : List ℕ) (i : ℕ) where
   -- after a statement that names an atom, if any
   pub record Step (N : NameLists) (s : Stmt) (o : Option ℕ) (M : NameLists) : Type 0 where
     pub room : Room M
-    pub told : shown text M i ≡ or_else (shown text N i) (cond (is_atom (suc i) o) (Some (name_of s)) None)
+    pub told : shown text M i ≡ option_or (shown text N i) (cond (is_atom (suc i) o) (Some (name_of s)) None)
 
-  unchanged : (N : NameLists) (s : Stmt) (o : Option ℕ) → Room N → or_else (shown text N i) (cond (is_atom (suc i) o) (Some (name_of s)) None) ≡ shown text N i → Step N s o N
+  unchanged : (N : NameLists) (s : Stmt) (o : Option ℕ) → Room N → option_or (shown text N i) (cond (is_atom (suc i) o) (Some (name_of s)) None) ≡ shown text N i → Step N s o N
   unchanged N s o room e = record { room = room; told = sym e }
 
-  else_none : (o : Option (List ℕ)) → or_else o None ≡ o
+  else_none : (o : Option (List ℕ)) → option_or o None ≡ o
   else_none None = refl
   else_none (Some x) = refl
 
@@ -71,7 +71,7 @@ module _ (text : List ℕ) (i : ℕ) where
     -- another atom's name
     other : eqb a (suc i) ≡ false → Step N s (Some a) (named_by N s (Some a))
     other e =
-        let none = ap (λ b. or_else (shown text N i) (cond b (Some (name_of s)) None)) e ∙ else_none (shown text N i) in
+        let none = ap (λ b. option_or (shown text N i) (cond b (Some (name_of s)) None)) e ∙ else_none (shown text N i) in
         let j = a - 1 in
         cond_both (eqb (get_or N.lengths j 0) 0) _ N (Step N s (Some a))
         (λ _. let apart : i ≢ j = λ q. eqb-false a (suc i) e (omega (arith, named.above)) in
@@ -109,7 +109,7 @@ module _ (text : List ℕ) (i : ℕ) where
             in_lengths = omega (arith, length-set N.lengths j (name_size s), room.in_lengths);
             inside = λ h. omega (arith, start, size, here.inside);
           };
-          told = is_shown ∙ sym (ap (λ o. or_else o (cond (eqb a (suc i)) (Some (name_of s)) None)) was_none ∙ cond-true (eqb a (suc i)) _ _ (eq-eqb a (suc i) e));
+          told = is_shown ∙ sym (ap (λ o. option_or o (cond (eqb a (suc i)) (Some (name_of s)) None)) was_none ∙ cond-true (eqb a (suc i)) _ _ (eq-eqb a (suc i) e));
         })
 
     -- the atom's own name, where it has one already
@@ -119,7 +119,7 @@ module _ (text : List ℕ) (i : ℕ) where
         let place : i ≡ j = omega arith in
         let late : eqb (get_or N.lengths j 0) 0 ≡ false = ne_eqb (get_or N.lengths j 0) 0 (λ q. omega (arith, ap (λ k. get_or N.lengths k 0) place)) in
         let was_shown = cond-true (ltb 0 (get_or N.lengths i 0)) _ None (lt-ltb 0 (get_or N.lengths i 0) some) in
-        subst (Step N s (Some a)) (sym (cond-false (eqb (get_or N.lengths j 0) 0) _ N late)) (unchanged N s (Some a) room (ap (λ o. or_else o (cond (eqb a (suc i)) (Some (name_of s)) None)) was_shown ∙ sym was_shown))
+        subst (Step N s (Some a)) (sym (cond-false (eqb (get_or N.lengths j 0) 0) _ N late)) (unchanged N s (Some a) room (ap (λ o. option_or o (cond (eqb a (suc i)) (Some (name_of s)) None)) was_shown ∙ sym was_shown))
 
   step_by : (N : NameLists) (s : Stmt) (o : Option ℕ) → atom_named s ≡ o → Room N → InText text s → Step N s o (named_by N s o)
   step_by N s None e room here = unchanged N s None room (else_none (shown text N i))
@@ -133,14 +133,14 @@ module _ (text : List ℕ) (i : ℕ) where
         ]
       ]
 
-  else_assoc : (o : Option (List ℕ)) (b : Bool) (x : List ℕ) (p : Option (List ℕ)) → or_else (or_else o (cond b (Some x) None)) p ≡ or_else o (cond b (Some x) p)
+  else_assoc : (o : Option (List ℕ)) (b : Bool) (x : List ℕ) (p : Option (List ℕ)) → option_or (option_or o (cond b (Some x) None)) p ≡ option_or o (cond b (Some x) p)
   else_assoc None true x p = refl
   else_assoc None false x p = refl
   else_assoc (Some y) b x p = refl
 
   pub record Told (N : NameLists) (ss : List Stmt) : Type 0 where
     pub room : Room (with_names N ss)
-    pub told : shown text (with_names N ss) i ≡ or_else (shown text N i) (first_name (suc i) ss)
+    pub told : shown text (with_names N ss) i ≡ option_or (shown text N i) (first_name (suc i) ss)
 
   pub names_told : (N : NameLists) (ss : List Stmt) → Room N → Each (InText text) ss → Told N ss
   unfolding with_names
@@ -148,7 +148,7 @@ module _ (text : List ℕ) (i : ℕ) where
   names_told N (s ∷ ss) room here =
       let a = step_by N s (atom_named s) refl room here.0 in
       let b = names_told (with_name N s) ss a.room here.1 in
-      record { room = b.room; told = b.told ∙ ap (λ o. or_else o (first_name (suc i) ss)) a.told ∙ else_assoc (shown text N i) (is_atom (suc i) (atom_named s)) (name_of s) (first_name (suc i) ss) }
+      record { room = b.room; told = b.told ∙ ap (λ o. option_or o (first_name (suc i) ss)) a.told ∙ else_assoc (shown text N i) (is_atom (suc i) (atom_named s)) (name_of s) (first_name (suc i) ss) }
 
 -- no atom above the greatest has a name
 

@@ -1,5 +1,5 @@
 -- The statements of a text, line by line.
-use Rattle.std.proofs.Common.{◌≡◌, ℕ, zero, suc, true, List, [], ◌∷◌, is_ok, Ok, Err, Result, sym, refl, ap, ◌∙◌, arith}
+use Rattle.std.proofs.Common.{◌≡◌, ℕ, zero, suc, true, List, [], ◌∷◌, is_ok, Ok, Err, Result, sym, refl, ap, ◌∙◌}
 use Rattle.aspif.specs.declared.error.TextError.{TextError}
 use Rattle.reader.specs.Fields.{and_then}
 use Rattle.reader.specs.Statements.{Stmt}
@@ -19,7 +19,7 @@ more_by k m h (Err x) o = refl
 -- with a line more to spare, the same statements are said
 said_more : (n : ℕ) (text : List ℕ) (at : ℕ) → is_ok (said_from n text at) ≡ true → said_from (suc n) text at ≡ said_from n text at
 unfolding said_from
-said_more zero text at o = let y : ◌≡◌ {A = ℕ} 0 1 = cc in absurd (omega arith)
+said_more zero text at o = absurd cc
 said_more (suc n) text at o = more_by (said_from n text) (said_from (suc n) text) (said_more n text) (line_at text at) o
 
 -- after a line that says a statement
@@ -29,11 +29,11 @@ pub record SaysOn (n : ℕ) (text : List ℕ) (at : ℕ) (s : Stmt) (next : ℕ)
 
 first_listed : (s : Stmt) (r q : Result (List Stmt) TextError) → is_ok (before s r) ≡ true → q ≡ r → listed (before s r) ≡ s ∷ listed q
 first_listed s (Ok ss) q o e = ap (λ p. s ∷ listed p) (sym e)
-first_listed s (Err x) q o e = let y : ◌≡◌ {A = ℕ} 0 1 = cc in absurd (omega arith)
+first_listed s (Err x) q o e = absurd cc
 
 pub says_on : (n : ℕ) (text : List ℕ) (at : ℕ) (s : Stmt) (next : ℕ) → Ok (said s next) ≡ line_at text at → is_ok (said_from n text at) ≡ true → SaysOn n text at s next
 unfolding said_from
-says_on zero text at s next e o = let y : ◌≡◌ {A = ℕ} 0 1 = cc in absurd (omega arith)
+says_on zero text at s next e o = absurd cc
 says_on (suc n) text at s next e o =
     let here = ap (λ l. and_then l (said_by (said_from n text))) e in
     let ok = ap is_ok here ∙ o in

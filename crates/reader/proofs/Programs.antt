@@ -118,7 +118,7 @@ begins_front (x ∷ xs) ys = and_from (eqb x x) (begins xs (xs ++ ys)) (eq-eqb x
 
 front_begins : (xs ys : List ℕ) → begins xs ys ≡ true → ys ≡ xs ++ drop (length xs) ys
 front_begins [] ys h = refl
-front_begins (x ∷ xs) [] h = let no : ◌≡◌ {A = ℕ} 0 1 = cc in absurd (omega arith)
+front_begins (x ∷ xs) [] h = absurd cc
 front_begins (x ∷ xs) (y ∷ ys) h = let p = and_parts (eqb y x) (begins xs ys) h in ap (◌∷ ys) (eqb-true y x p.0) ∙ ap (x ∷◌) (front_begins xs ys p.1)
 
 module _ (text : List ℕ) where

@@ -1,43 +1,61 @@
 -- The values of a row, one after another, and the greatest of them.
 use Rattle.std.proofs.Common.{◌≡◌, ℕ, suc, max, true, List, [], ◌∷◌, ℤ, is_ok, Ok, Err, Result, unwrap_or, sym, refl, ap, ◌∙◌, arith}
+use denote.Ref.{Bor}
 use Rattle.std.specs.List.{fold, reduce}
 use Rattle.aspif.specs.declared.error.TextError.{TextError}
-use Rattle.reader.specs.Fields.{and_then, Field}
+use Rattle.reader.specs.Cursors.{Reads}
+use Rattle.reader.specs.Fields.{and_then, stepped, Field, field_to}
 use Rattle.reader.specs.Rows.{Row, item_at, before, row_at, row_values}
 use Rattle.reader.specs.Statements.{greatest}
+use Rattle.reader.specs.Seen.{numbers_in}
+use Rattle.reader.specs.declared.cursor.Cursor.{Cursor}
+use Rattle.reader.specs.declared.statement.Numbers.{Numbers}
 use Rattle.reader.specs.declared.pieces.Items.{Items}
 
 -- the first number of a row, and the numbers after it
 
-before_ok : (z : ℤ) (r : Result Row TextError) → is_ok (before z r) ≡ true → (is_ok r ≡ true) × (row_values (before z r) ≡ z ∷ row_values r)
+pub before_ok : (z : ℤ) (r : Result Row TextError) → is_ok (before z r) ≡ true → (is_ok r ≡ true) × (row_values (before z r) ≡ z ∷ row_values r)
 before_ok z (Ok r) h = (refl, refl)
-before_ok z (Err e) h = let y : ◌≡◌ {A = ℕ} 0 1 = cc in absurd (omega arith)
+before_ok z (Err e) h = absurd cc
 
 item_first : (s : Result Field TextError) (k : ℕ → Result Row TextError) (f : Field) → Ok f ≡ s → is_ok (and_then s (λ g. before g.value (k g.next))) ≡ true → (is_ok (k f.next) ≡ true) × (row_values (and_then s (λ g. before g.value (k g.next))) ≡ f.value ∷ row_values (k f.next))
-item_first (Ok g) k f e o =
-    let same : g ≡ f = cc in
-    let b = before_ok g.value (k g.next) o in
-    (ap (λ (h : Field). is_ok (k h.next)) (sym same) ∙ b.0, b.1 ∙ ap (λ (h : Field). h.value ∷ row_values (k h.next)) same)
-item_first (Err x) k f e o = let y : ◌≡◌ {A = ℕ} 0 1 = cc in absurd (omega arith)
+item_first s k f e o =
+    let here = ap (λ t. and_then t (λ g. before g.value (k g.next))) e in
+    let b = before_ok f.value (k f.next) (ap is_ok here ∙ o) in
+    (b.0, sym (ap row_values here) ∙ b.1)
 
-item_none : (x : TextError) (s : Result Field TextError) (k : ℕ → Result Row TextError) → Err x ≡ s → is_ok (and_then s (λ g. before g.value (k g.next))) ≡ true → ⊥
-item_none x (Ok g) k e o = let y : ◌≡◌ {A = ℕ} 0 1 = cc in omega arith
-item_none x (Err y) k e o = let z : ◌≡◌ {A = ℕ} 0 1 = cc in omega arith
+item_ok : {V : Type 0} (f : V → ℕ → Field) (r : Result V TextError) (next : ℕ) (s : Result Field TextError) (k : ℕ → Result Row TextError) → stepped f r next ≡ s → is_ok (and_then s (λ g. before g.value (k g.next))) ≡ true → is_ok r ≡ true
+item_ok f (Ok v) next s k e o = refl
+item_ok f (Err x) next s k e o = ap (λ t. is_ok (and_then t (λ g. before g.value (k g.next)))) e ∙ o
 
-pub record FirstOf (items : Items) (n m : ℕ) (text : List ℕ) (at : ℕ) (f : Field) : Type 0 where
-  pub reads : is_ok (row_at items m text f.next) ≡ true
-  pub values : row_values (row_at items n text at) ≡ f.value ∷ row_values (row_at items m text f.next)
+pub record FirstOf (ns : Numbers) (more : ℕ) (start : Cursor) (z : ℤ) : Type 0 where
+  pub reads : is_ok (row_at ns.items more start.text.now start.at) ≡ true
+  pub values : numbers_in ns ≡ z ∷ row_values (row_at ns.items more start.text.now start.at)
 
-module _ (items : Items) (n m : ℕ) (text : List ℕ) (at : ℕ) (one : n ≡ suc m) (reads : is_ok (row_at items n text at) ≡ true) where
-  pub first_of : (f : Field) → Ok f ≡ item_at items m text at → FirstOf items n m text at f
+-- a cursor that read the first number, and so stands before the others
+module _ (ns : Numbers) (more : ℕ) (one : ns.count ≡ suc more) (r : Result ℤ TextError) (start : Cursor) (item : Reads (field_to ns.start.text.now) (item_at ns.items more) ns.start r start) where
+  abbrev first : Result Field TextError
+  first = item_at ns.items more ns.start.text.now ns.start.at
+
+  abbrev after : ℕ → Result Row TextError
+  after = row_at ns.items more ns.start.text.now
+
+  reads_on : is_ok (and_then first (λ g. before g.value (after g.next))) ≡ true
   unfolding row_at
-  first_of f e =
-      let t = item_first (item_at items m text at) (row_at items m text) f e (ap (λ k. is_ok (row_at items k text at)) (sym one) ∙ reads) in
-      record { reads = t.0; values = ap (λ k. row_values (row_at items k text at)) one ∙ t.1 }
+  reads_on = ap (λ k. is_ok (row_at ns.items k ns.start.text.now ns.start.at)) (sym one) ∙ ns.reads
 
-  pub is_first : (x : TextError) → Err x ≡ item_at items m text at → ⊥
+  pub is_read : is_ok r ≡ true
+  is_read = item_ok (field_to ns.start.text.now) r start.at first after item.tells reads_on
+
+  pub first_of : (z : ℤ) → Ok z ≡ r → FirstOf ns more start z
   unfolding row_at
-  is_first x e = item_none x (item_at items m text at) (row_at items m text) e (ap (λ k. is_ok (row_at items k text at)) (sym one) ∙ reads)
+  first_of z e =
+      let to = field_to ns.start.text.now in
+      let p = item_first first after (to z start.at) (ap (λ q. stepped to q start.at) e ∙ item.tells) reads_on in
+      record {
+        reads = ap (λ (t : Bor (List ℕ)). is_ok (row_at ns.items more t.now start.at)) item.same_text ∙ p.0;
+        values = ap (λ k. row_values (row_at ns.items k ns.start.text.now ns.start.at)) one ∙ p.1 ∙ ap (λ (t : Bor (List ℕ)). z ∷ row_values (row_at ns.items more t.now start.at)) (sym item.same_text);
+      }
 
 pub none_first : (items : Items) (n : ℕ) (text : List ℕ) (at : ℕ) → n ≡ 0 → row_values (row_at items n text at) ≡ []
 unfolding row_at

@@ -6,22 +6,19 @@ use Rattle.std.proofs.lemmas.Int.{to_z-of_z}
 use Rattle.std.proofs.lemmas.List.{take_rest}
 use Rattle.std.proofs.lemmas.List.Folds.{length-prefix_len}
 use Rattle.std.proofs.lemmas.Bool.{cond-true, lt-ltb}
+use Rattle.std.proofs.lemmas.Option.{cond_some, none-some}
 use Rattle.aspif.specs.declared.error.TextError.{TextError}
 use Rattle.aspif.specs.declared.error.TextError.TheVariants.{Malformed, UnexpectedEnd}
 use Rattle.reader.specs.Fields.{minus_at, digits_from, digits_count, formed, number_of, follows, byte_at, judged, field_by, field_at, field_to}
 use Rattle.reader.specs.declared.pieces.After.{After}
 use Rattle.reader.proofs.Numerals.{front_all}
 
-formed_some : (b : Bool) (s v : ℤ) → cond b (Some s) None ≡ Some v → (b ≡ true) × (s ≡ v)
-formed_some true s v e = (refl, cc)
-formed_some false s v e = let z : ◌≡◌ {A = ℕ} 0 1 = cc in absurd (omega arith)
-
 formed_none : (b : Bool) (s : ℤ) → cond b (Some s) None ≡ None → b ≡ false
-formed_none true s e = let z : ◌≡◌ {A = ℕ} 0 1 = cc in absurd (omega arith)
+formed_none true s e = absurd (none-some s (sym e))
 formed_none false s e = refl
 
 no_byte : (b : Bool) (n : ℕ) (x y : TextError) → Err y ≡ cond b (Ok n) (Err x) → (b ≡ false) × (y ≡ x)
-no_byte true n x y e = let z : ◌≡◌ {A = ℕ} 0 1 = cc in absurd (omega arith)
+no_byte true n x y e = absurd cc
 no_byte false n x y e = (refl, cc)
 
 -- a number from its digits, of which so many stand at the front of the rest
@@ -56,7 +53,7 @@ module _ (after : After) (text : List ℕ) (at from n : ℕ) (minus : Bool) (m :
 
   pub number_here : (v : ℤ) → from + n < length text → number_of minus digits ≡ Some v → follows after v (get_or text (from + n) 0) ≡ true → Ok (field_to text v (from + n + 1)) ≡ field_at after text at
   number_here v h o g =
-      let p = formed_some (formed minus digits) _ v o in
+      let p = cond_some (formed minus digits) _ v o in
       let back : from + n + 1 - 1 ≡ from + n = omega arith in
       ap (λ k. Ok (record { value = v; ending = get_or text k 0; next = from + n + 1 })) back ∙ sym (simp (p.0, p.1, g) refl) ∙ judged_here h
 
@@ -64,6 +61,6 @@ module _ (after : After) (text : List ℕ) (at from n : ℕ) (minus : Bool) (m :
   not_formed h o = let p = formed_none (formed minus digits) _ o in sym (simp p refl) ∙ judged_here h
 
   pub not_followed : (v : ℤ) → from + n < length text → number_of minus digits ≡ Some v → follows after v (get_or text (from + n) 0) ≡ false → Err (Malformed at) ≡ field_at after text at
-  not_followed v h o g = let p = formed_some (formed minus digits) _ v o in sym (simp (p.0, p.1, g) refl) ∙ judged_here h
+  not_followed v h o g = let p = cond_some (formed minus digits) _ v o in sym (simp (p.0, p.1, g) refl) ∙ judged_here h
 
 pub ruleset number_steps = (only_digits, no_end, number_here, not_formed, not_followed, to_z-of_z)

@@ -25,11 +25,11 @@ pub ruleset row_steps = (row_more, row_empty, row_end_before)
 -- a row, from where it ends and what it holds
 pub row_back : (n : ℕ) (r : Result Row TextError) → Ok n ≡ row_end r → Ok (record { values = row_values r; next = n }) ≡ r
 row_back n (Ok r) e = let h : n ≡ r.next = cc in ap (λ k. Ok (record { values = r.values; next = k })) h
-row_back n (Err x) e = let z : ◌≡◌ {A = ℕ} 0 1 = cc in absurd (omega arith)
+row_back n (Err x) e = absurd cc
 
 pub row_ok : (n : ℕ) (r : Result Row TextError) → Ok n ≡ row_end r → is_ok r ≡ true
 row_ok n (Ok r) e = refl
-row_ok n (Err x) e = let z : ◌≡◌ {A = ℕ} 0 1 = cc in absurd (omega arith)
+row_ok n (Err x) e = absurd cc
 
 pub ruleset row_reads = (row_back, row_ok)
 
@@ -37,11 +37,11 @@ pub ruleset row_reads = (row_back, row_ok)
 
 before_length : (z : ℤ) (n : ℕ) (r : Result Row TextError) → (is_ok r ≡ true → length (row_values r) ≡ n) → is_ok (before z r) ≡ true → length (row_values (before z r)) ≡ suc n
 before_length z n (Ok r) h k = ap suc (h refl)
-before_length z n (Err e) h k = let y : ◌≡◌ {A = ℕ} 0 1 = cc in absurd (omega arith)
+before_length z n (Err e) h k = absurd cc
 
 then_length : (n : ℕ) (s : Result Field TextError) (k : ℕ → Result Row TextError) → ((at : ℕ) → is_ok (k at) ≡ true → length (row_values (k at)) ≡ n) → is_ok (and_then s (λ f. before f.value (k f.next))) ≡ true → length (row_values (and_then s (λ f. before f.value (k f.next)))) ≡ suc n
 then_length n (Ok f) k h o = before_length f.value n (k f.next) (h f.next) o
-then_length n (Err e) k h o = let y : ◌≡◌ {A = ℕ} 0 1 = cc in absurd (omega arith)
+then_length n (Err e) k h o = absurd cc
 
 pub row_length : (items : Items) (n : ℕ) (text : List ℕ) (at : ℕ) → is_ok (row_at items n text at) ≡ true → length (row_values (row_at items n text at)) ≡ n
 unfolding row_at

@@ -25,7 +25,7 @@ pub record Surveyed (text : List ℕ) (C : Counts) (ss : List Stmt) : Type 0 whe
 
 ok_counted : (r : Result (List Stmt) TextError) → is_ok r ≡ true → (C : Counts) × (counts_of nothing r ≡ Ok C)
 ok_counted (Ok ss) h = (with_all nothing ss, refl)
-ok_counted (Err e) h = let z : ◌≡◌ {A = ℕ} 0 1 = cc in absurd (omega arith)
+ok_counted (Err e) h = absurd cc
 
 module _ (text : List ℕ) where
   counted : (ss : List Stmt) → 10 ≤ length text → length text ≤ 65536 → statements_from (length text) nothing text 10 ≡ Ok ss → Surveyed text (with_all nothing ss) ss

@@ -80,10 +80,6 @@ answer_by : (room : Counts → Bool) (r : Result (List Stmt) TextError) → and_
 answer_by room (Ok ss) = ap (room_tested room) (sizes_are ss)
 answer_by room (Err e) = refl
 
-pub answer_is : (text : List ℕ) (room : Counts → Bool) (r : Result Counts TextError) → r ≡ counts_of nothing (statements_of text) → and_then r (room_tested room) ≡ read_answer text room
-unfolding read_answer
-answer_is text room r e = ap (λ q. and_then q (room_tested room)) e
-
 pub said_together : (text : List ℕ) → SaidTogether text
 unfolding read_answer integers_after starts_after assumed_after names_after
 said_together text = record {

@@ -20,8 +20,9 @@ pub record Whole (C : Counts) (ss : List Stmt) (plain : Result (List Stmt) TextE
   pub plainly : plain ≡ Ok ss
   pub kept : keeps (with_all C ss) ≡ true
 
-pub never : {X : Type 0} {x : X} {e : TextError} {P : Type 0} → ◌≡◌ {A = Result X TextError} (Err e) (Ok x) → P
-never h = let z : ◌≡◌ {A = ℕ} 0 1 = cc in absurd (omega arith)
+-- what is done was not refused
+pub never : {X E P : Type 0} {x : X} {e : E} → ◌≡◌ {A = Result X E} (Err e) (Ok x) → P
+never h = absurd cc
 
 module _ (next : Counts → ℕ → Result (List Stmt) TextError) (plain : ℕ → Result (List Stmt) TextError) (go : (D : Counts) (b : ℕ) (ss : List Stmt) → keeps D ≡ true → next D b ≡ Ok ss → Whole D ss (plain b)) where
   said_whole : (C : Counts) (s : Stmt) (b : ℕ) (ss : List Stmt) (r : Result (List Stmt) TextError) → next (with_one C s) b ≡ r → keeps (with_one C s) ≡ true → before s r ≡ Ok ss → Whole C ss (before s (plain b))

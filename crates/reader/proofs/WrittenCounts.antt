@@ -141,11 +141,11 @@ pub record HeadTypeSays (text : List ℕ) (at : ℕ) (h : Headed) : Type 0 where
 kind_by : (n : ℕ) (k : Kind) (plain choice : Bool) → eqb n 0 ≡ plain → eqb n 1 ≡ choice → cond plain (Ok Plain) (cond {A = Result Kind NoSuchKind} choice (Ok Choice) (Err (record {}))) ≡ Ok k → pos n ≡ head_type k
 kind_by n k true choice a b e = let same : Plain ≡ k = cc in ap pos (eqb-true n 0 a) ∙ ap head_type same
 kind_by n k false true a b e = let same : Choice ≡ k = cc in ap pos (eqb-true n 1 b) ∙ ap head_type same
-kind_by n k false false a b e = let z : ◌≡◌ {A = ℕ} 0 1 = cc in absurd (omega arith)
+kind_by n k false false a b e = absurd cc
 
 kind_is : (z : ℤ) (k : Kind) → kind_told z ≡ Ok k → z ≡ head_type k
 kind_is (pos n) k e = kind_by n k (eqb n 0) (eqb n 1) refl refl e
-kind_is (negsuc n) k e = let z : ◌≡◌ {A = ℕ} 0 1 = cc in absurd (omega arith)
+kind_is (negsuc n) k e = absurd cc
 
 head_type_told : (text : List ℕ) (at : ℕ) (z : ℤ) (b next : ℕ) → Says Space text at (record { value = z; ending = b; next = next }) → (r : Result Kind NoSuchKind) → kind_told z ≡ r → IfOk (headed_by at next r) (HeadTypeSays text at)
 head_type_told text at z b next s (Ok k) e =

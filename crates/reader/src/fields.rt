@@ -57,9 +57,9 @@ impl Cursor<'_> {
         ensures same_text { self.new.text ≡ self.old.text }
     {
         let text = self.text;
-        let Some(byte) = text.get(at) else {
-            return Err(TextError::UnexpectedEnd(text.len() as u32));
-        };
+        let byte = text
+            .get(at)
+            .ok_or(TextError::UnexpectedEnd(text.len() as u32))?;
         self.at = at + 1;
         Ok(*byte)
     }
@@ -78,9 +78,7 @@ impl Cursor<'_> {
             digits: &self.text[from..end],
         };
         let ending = self.byte(end)?;
-        let Some(value) = numeral.value() else {
-            return Err(malformed);
-        };
+        let value = numeral.value().ok_or(malformed)?;
         if !after.allows(value, ending) {
             return Err(malformed);
         }

@@ -1,4 +1,5 @@
 // What statements hold, put into the lists of the caller.
+// A pen's call is public and asks nothing of its caller, so it can refuse; that it never does so here is said by `done`.
 ghost use Rattle.std.specs.Prelude.{◌≡◌, ◌≤◌, length, Ok};
 ghost use Rattle.std.proofs.lemmas.List.Edits.{sets};
 ghost use Rattle.reader.specs.Statements.{assumed_in};

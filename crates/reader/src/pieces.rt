@@ -27,7 +27,7 @@ pub enum Count {
 }
 
 // What was read: the greatest atom, and how many rules, rule integers and assumed literals.
-#[derive(Clone, Copy, Debug, PartialEq, Eq)]
+#[derive(Clone, Copy, Debug, Default, PartialEq, Eq)]
 pub struct Counts {
     pub atoms: u32,
     pub rules: usize,

@@ -18,6 +18,7 @@ use aspif::error::TextError;
 
 const HEADING: &[u8] = b"asp 1 0 0\n";
 
+#[tactic(auto, unfolding(aspif::specs::Texts::heading))]
 fn has_heading(text: &[u8]) -> bool
     ensures { result ≡ begins heading text.now }
 {
@@ -77,6 +78,7 @@ impl Lists<'_> {
 }
 
 // Fills the lists from a text, each from its front on, and answers what the text holds.
+#[tactic(auto, unfolding(crate::specs::Read::read_answer), using(crate::proofs::Forward::every_text_has_its_verdict, crate::proofs::Programs::reads_exactly_programs, crate::proofs::Together::said_together, crate::proofs::Back::written_reads_back))]
 pub fn read(text: &[u8], lists: &mut Lists<'_>) -> Result<Counts, TextError>
     ensures answer { result ≡ read_answer text.now (has_room_in (held lists.old)) }
     ensures left { ReadInto text.now lists.old lists.new }

@@ -71,11 +71,11 @@ impl Cursor<'_> {
         ensures { Reads counted_to (count_at count) self.old result self.new }
     {
         let at = self.at as u32;
-        match self.field(count.after())? {
-            i32::MIN..=-1 => Err(TextError::Malformed(at)),
-            n if n.unsigned_abs() > count.limit() => Err(count.fault(at)),
-            n => Ok(n.unsigned_abs()),
+        let n = u32::try_from(self.field(count.after())?).map_err(|_| TextError::Malformed(at))?;
+        if n > count.limit() {
+            return Err(count.fault(at));
         }
+        Ok(n)
     }
 
     // A number of a row, with so many more behind it.

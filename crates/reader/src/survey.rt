@@ -50,12 +50,7 @@ pub(crate) fn survey(text: &[u8]) -> Result<Counts, TextError>
     requires { (10 ≤ length text.now) × (length text.now ≤ 65536) }
     ensures { result ≡ counts_of nothing (statements_from (length text.now) nothing text.now 10) }
 {
-    let mut counts = Counts {
-        atoms: 0,
-        rules: 0,
-        integers: 0,
-        assumed: 0,
-    };
+    let mut counts = Counts::default();
     let mut cursor = Cursor { text, at: 10 };
     let mut line = cursor.at;
     while let Some(statement) = cursor.statement()? {

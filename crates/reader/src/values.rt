@@ -21,9 +21,7 @@ impl<'a> Iterator for Values<'a> {
         let numbers = self.rest;
         let more = numbers.count.checked_sub(1)?;
         let mut start = numbers.start;
-        let Ok(number) = start.item(numbers.items, more) else {
-            return None;
-        };
+        let number = start.item(numbers.items, more).ok()?;
         self.rest = Numbers {
             start,
             count: more,

@@ -22,11 +22,11 @@ impl Printed for Layer {
     }
 }
 
+#[tactic(auto, unfolding(crate::specs::Told::number))]
 fn put_numeral<S: Sink>(sink: &mut S, n: u32) -> Result<(), TooShort>
     ensures { Takes S.fits S.after sink.old (number n) result sink.new }
 {
-    sink.put(b" ")?;
-    sink.put_number(i64::from(n))
+    sink.put_spaced(i64::from(n))
 }
 
 // Both places and the newline.

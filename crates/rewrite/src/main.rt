@@ -1,7 +1,7 @@
 // Reads a program text from standard input and prints its rules again, or the line that tells why it is refused.
 #![tactic(auto)]
 
-use anyhow::anyhow;
+use anyhow::Context;
 use reader::lists::Lists;
 use report::rewriting::rewrite_or_tell;
 use std::io::{Read, Write};
@@ -13,10 +13,11 @@ const TAKEN: u64 = 65_537;
 
 fn run(rt: &HostRuntime) -> anyhow::Result<()> {
     let heap = rt.alloc();
-    let mut text = vec![in heap; 0u8; 0]?;
+    let mut text = Vec::new(heap);
     rt.stdin().take(TAKEN).read_to_end(&mut text)?;
     let mut out = vec![in heap; 0u8; ROOM]?;
-    // Room for every text that can be read. A call that lends five lists of what it owns would owe a promise for each.
+    // Room for every text that can be read. A function that makes the lists and gives the text back would be a call more,
+    // which can fail for want of memory, to save these lines in two programs.
     let mut integers = vec![in heap; 0i32; 16_384]?;
     let mut starts = vec![in heap; 0u32; 2048]?;
     let mut places = vec![in heap; 0u32; 1024]?;
@@ -29,10 +30,9 @@ fn run(rt: &HostRuntime) -> anyhow::Result<()> {
         lengths: &mut lengths,
         assumed: &mut assumed,
     };
-    let answer = rewrite_or_tell(&text, &mut lists, &mut out);
-    let Ok(size) = answer else {
-        return Err(anyhow!("no room for the line that tells the refusal"));
-    };
+    let size = rewrite_or_tell(&text, &mut lists, &mut out)
+        .ok()
+        .context("no room for the line that tells the refusal")?;
     out.truncate(size);
     rt.stdout().write_all(&out)?;
     Ok(())

@@ -81,7 +81,7 @@ module _ (R : Rules) where
 
   took : (s : State) (P : Proposal) (v : Verdict) → (enter_by s P v).0 ≡ Ok tt → is_ok v ≡ true
   took s P (Ok u) e = refl
-  took s P (Err r) e = let z : ◌≡◌ {A = ℕ} 0 1 = cc in absurd (omega arith)
+  took s P (Err r) e = absurd cc
 
   pub takes_the_allowed : (s : State) (P : Proposal) → TakesTheAllowed R s P
   takes_the_allowed s P is_open = (

@@ -3,6 +3,7 @@ use Rattle.std.proofs.Common.{◌≡◌, ℕ, zero, suc, ◌<◌, ◌≤◌, Boo
 use mathlib.Core.Path.{fun_ext}
 use Rattle.std.specs.List.{AllByRecursion as Each}
 use Rattle.book.specs.Rules.{Rules}
+use Rattle.std.proofs.Math.Bool.{or-false}
 use Rattle.std.proofs.lemmas.List.{length-set, get_or-set_same, get_or-set_other}
 use Rattle.std.proofs.lemmas.Bool.{cases_eq, eq-eqb, ne_eqb}
 use Rattle.sheet.specs.Marks.{assuming}
@@ -24,21 +25,17 @@ or_shift true true z = refl
 or_shift true false z = refl
 or_shift false y z = refl
 
-or_none : (y : Bool) → y ≡ (y || false)
-or_none true = refl
-or_none false = refl
-
 abbrev Within : ℕ → ℤ → Type 0
 Within n z = nat_abs z < n
 
 pub positives_flagged : (zs : List ℤ) (flags : List Bool) (n : ℕ) → length flags ≡ n → Each (Within n) zs → (a : ℕ) → flagged (with_positives flags zs) a ≡ (flagged flags a || positives zs a)
-positives_flagged [] flags n size l a = or_none (flagged flags a)
+positives_flagged [] flags n size l a = sym (or-false (flagged flags a))
 positives_flagged (pos p ∷ zs) flags n size l a =
     positives_flagged zs (set flags p true) n (length-set flags p true ∙ size) l.1 a ∙ ap (λ b. b || positives zs a) (flag_set flags p a (omega (arith, l.0))) ∙ or_shift (eqb a p) (flagged flags a) (positives zs a)
 positives_flagged (negsuc p ∷ zs) flags n size l a = positives_flagged zs flags n size l.1 a
 
 pub negatives_flagged : (zs : List ℤ) (flags : List Bool) (n : ℕ) → length flags ≡ n → Each (Within n) zs → (a : ℕ) → flagged (with_negatives flags zs) a ≡ (flagged flags a || negatives zs a)
-negatives_flagged [] flags n size l a = or_none (flagged flags a)
+negatives_flagged [] flags n size l a = sym (or-false (flagged flags a))
 negatives_flagged (pos p ∷ zs) flags n size l a = negatives_flagged zs flags n size l.1 a
 negatives_flagged (negsuc p ∷ zs) flags n size l a =
     negatives_flagged zs (set flags (suc p) true) n (length-set flags (suc p) true ∙ size) l.1 a ∙ ap (λ b. b || negatives zs a) (flag_set flags (suc p) a (omega (arith, l.0))) ∙ or_shift (eqb a (suc p)) (flagged flags a) (negatives zs a)

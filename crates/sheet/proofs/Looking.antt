@@ -4,7 +4,7 @@ use Rattle.std.specs.List.{slice_get, list_all, list_any}
 use Rattle.std.proofs.Math.Bool.{and-true}
 use Rattle.base.specs.Search.{least}
 use Rattle.base.proofs.Search.{some_place}
-use Rattle.book.specs.Rules.{Rule, kind_of, head_size, body_size, head_atom}
+use Rattle.book.specs.Rules.{Rule, kind_of, head_size, body_size, head_atom, body_literal}
 use Rattle.book.specs.declared.kind.Kind.TheVariants.{Plain}
 use Rattle.sheet.specs.Lists.{passes}
 use Rattle.sheet.specs.Marks.{Atoms}
@@ -12,22 +12,17 @@ use Rattle.sheet.specs.Bodies.{body_of, unmet_at, first_unmet, literal_true, tru
 use Rattle.sheet.specs.Judges.{some_head, some_literal}
 use Rattle.sheet.specs.AnswerSets.{head_broken, broken}
 
--- not not b is b
-not_not : (b : Bool) → not (not b) ≡ b
-not_not true = refl
-not_not false = refl
-
 -- a place of a head whose atom passes is found where an atom of it passes
 pub any_head_place : (p : ℕ → Bool) (o : Option Rule) → is_some (least (λ at. passes p (head_atom o at)) (unwrap_or (head_size o) 0)) ≡ some_head p o
 unfolding some_head
 any_head_place p None = refl
 any_head_place p (Some ρ) = some_place p (λ at. passes p (slice_get ρ.head at)) ρ.head (λ i a e. sym (ap (passes p) e))
 
--- a place of a body that misses the opposite test is found where a literal of it passes
-pub any_literal_place : (p : ℤ → Bool) (o : Option Rule) → is_some (first_unmet (λ z. not (p z)) o) ≡ some_literal p o
-unfolding first_unmet some_literal
+-- and a place of a body whose literal passes, where a literal of it does
+pub any_literal_place : (p : ℤ → Bool) (o : Option Rule) → is_some (least (λ at. passes p (body_literal o at)) (unwrap_or (body_size o) 0)) ≡ some_literal p o
+unfolding some_literal
 any_literal_place p None = refl
-any_literal_place p (Some ρ) = some_place p (unmet_at (λ z. not (p z)) (Some ρ)) ρ.body (λ i z e. sym (ap (passes (λ y. not (not (p y)))) e) ∙ not_not (p z))
+any_literal_place p (Some ρ) = some_place p (λ at. passes p (slice_get ρ.body at)) ρ.body (λ i z e. sym (ap (passes p) e))
 
 -- the size of a body is its length
 pub body_length : (o : Option Rule) → unwrap_or (body_size o) 0 ≡ length (body_of o)
@@ -45,9 +40,12 @@ every_not_some q [] = refl
 every_not_some q (z ∷ zs) = de_morgan (q z) (list_any (λ y. not (q y)) zs) ∙ ap (q z &&◌) (every_not_some q zs)
 
 -- a plain rule without a true head is broken where no literal is untrue
-pub plain_broken : (A : Atoms) (o : Option Rule) → Some Plain ≡ kind_of o → passes (λ ρ. list_any A ρ.head) o ≡ false → not (passes (λ ρ. list_any (λ z. not (literal_true A A z)) ρ.body) o) ≡ passes (broken A) o
+pub plain_broken : (A : Atoms) (o : Option Rule) → Some Plain ≡ kind_of o → passes (λ ρ. list_any A ρ.head) o ≡ false → not (is_some (first_unmet (literal_true A A) o)) ≡ passes (broken A) o
+unfolding first_unmet
 plain_broken A None e h = cc
 plain_broken A (Some ρ) e h =
+    let test = literal_true A A in
     let plain : ρ.kind ≡ Plain = cc in
     let head : head_broken A ρ.kind ρ.head ≡ true = ap (λ k. head_broken A k ρ.head) plain ∙ ap not h in
-    every_not_some (literal_true A A) ρ.body ∙ sym (and-true (true_under A ρ)) ∙ ap (true_under A ρ &&◌) (sym head)
+    let found = some_place (λ z. not (test z)) (unmet_at test (Some ρ)) ρ.body (λ i z at. sym (ap (passes (λ y. not (test y))) at)) in
+    ap not found ∙ every_not_some test ρ.body ∙ sym (and-true (true_under A ρ)) ∙ ap (true_under A ρ &&◌) (sym head)

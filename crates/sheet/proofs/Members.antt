@@ -55,7 +55,7 @@ in_has xs a e = let r = some_at (eqb a) xs e in rw (eqb-true a r.0 r.2) r.1
 -- elements and places
 module _ {X : Type 0} where
   pub nth_in : (xs : List X) (k : ℕ) (x : X) → slice_get xs k ≡ Some x → In x xs
-  nth_in [] k x e = let z : ◌≡◌ {A = ℕ} 0 1 = cc in absurd (omega arith)
+  nth_in [] k x e = absurd cc
   nth_in (y ∷ ys) zero x e = inl (cc)
   nth_in (y ∷ ys) (suc k) x e = inr (nth_in ys k x e)
 
@@ -64,14 +64,9 @@ module _ {X : Type 0} where
   in_nth (y ∷ ys) x (inl q) = (0, omega arith, ap Some q)
   in_nth (y ∷ ys) x (inr i) = let r = in_nth ys x i in (suc r.0, omega (arith, r.1), r.2)
 
-  pub nth_below : (xs : List X) (k : ℕ) (x : X) → slice_get xs k ≡ Some x → k < length xs
-  nth_below [] k x e = let z : ◌≡◌ {A = ℕ} 0 1 = cc in absurd (omega arith)
-  nth_below (y ∷ ys) zero x e = omega arith
-  nth_below (y ∷ ys) (suc k) x e = let h = nth_below ys k x e in omega arith
-
   -- what stands before a place
   pub in_take : (xs : List X) (k n : ℕ) (x : X) → slice_get xs k ≡ Some x → k < n → In x (take n xs)
-  in_take [] k n x e l = let z : ◌≡◌ {A = ℕ} 0 1 = cc in absurd (omega arith)
+  in_take [] k n x e l = absurd cc
   in_take (y ∷ ys) k zero x e l = absurd (omega arith)
   in_take (y ∷ ys) zero (suc n) x e l = inl (cc)
   in_take (y ∷ ys) (suc k) (suc n) x e l = inr (in_take ys k n x e (omega arith))

@@ -1,7 +1,7 @@
 -- What a list of literals without fault says, and the sheet that it opens.
 use Rattle.std.proofs.Common.{◌≡◌, ℕ, zero, suc, ◌<◌, ◌≤◌, true, false, not, eqb, List, length, get_or, take, ℤ, pos, negsuc, nat_abs, Some, None, sym, refl, ap, ◌∙◌, subst, inl, inr, arith}
 use Rattle.std.specs.List.{slice_get}
-use Rattle.std.proofs.lemmas.Option.{slice_get-get_or}
+use Rattle.std.proofs.lemmas.Option.{same_Some, slice_get-get_or}
 use Rattle.std.proofs.lemmas.Bool.{false≢true, both_ways, not-false, or_parts, eqb-true, eq-eqb, cases_Bool, cases_order}
 use Rattle.base.proofs.Search.{none_passes}
 use Rattle.book.specs.Rules.{Rules, Atom}
@@ -66,13 +66,10 @@ module _ (R : Rules) (zs : List ℤ) (e : first_fault R zs ≡ None) where
       let j = in_nth zs s.0 s.1 in
       let same : nat_abs r.0 ≡ nat_abs s.0 = abs_positive a r.0 r.2 ∙ sym (abs_negative a s.0 s.2) in
       elim (cases_order i.0 j.0) [
-        | inl q ↦ let one : r.0 ≡ s.0 = some_same (sym i.2 ∙ ap (slice_get zs) q ∙ j.2) in not_both a r.0 r.2 (rw one s.2)
+        | inl q ↦ let one : r.0 ≡ s.0 = same_Some _ _ (sym i.2 ∙ ap (slice_get zs) q ∙ j.2) in not_both a r.0 r.2 (rw one s.2)
         | inr (inl l) ↦ once i.0 j.0 r.0 s.0 i.2 j.2 j.1 (sym same) l
         | inr (inr l) ↦ once j.0 i.0 s.0 r.0 j.2 i.2 i.1 same l
       ]
-    where
-      some_same : {y z : ℤ} → Some y ≡ Some z → y ≡ z
-      some_same q = cc
 
   pub taken_sound : first_broken R (positives zs) ≡ None → Sound R (open_taken zs)
   unfolding first_broken

@@ -1,8 +1,10 @@
 -- Complete: what it enters is allowed, and when it stops nothing is.
 use Rattle.std.proofs.Common.{◌≡◌, ℕ, zero, suc, ◌<◌, Bool, true, false, cond, ◌⊎◌, List, [], ◌∷◌, ◌++◌, length, is_ok, Some, None, Option, sym, refl, ap, ◌∙◌, subst, inl, inr, append-nil, arith, length-append}
 use Rattle.std.specs.Option.{option_map}
+use Rattle.std.proofs.lemmas.Option.{cond_some, slice_get_within}
 use Rattle.std.proofs.lemmas.Bool.{both_ways, cond_both, eqb-true, eq-eqb, cases_eq}
-use Rattle.base.specs.Search.{least, or_else}
+use Rattle.std.specs.Option.{option_or}
+use Rattle.base.specs.Search.{least}
 use Rattle.base.proofs.Search.{none_passes}
 use Rattle.book.specs.Rules.{Rule, Rules, rule_at, Atom}
 use Rattle.sheet.specs.declared.proposal.Reason.{Reason}
@@ -12,7 +14,6 @@ use Rattle.sheet.specs.Marks.{is_unmarked, marked_all}
 use Rattle.sheet.specs.Allowed.{There, Supports, Requires, Allowed, Grounded}
 use Rattle.sheet.specs.States.{State, marks, with_entries}
 use Rattle.sheet.specs.Complete.{because, admits, admits_by, lowest, first_reason, enter_first, sweep, round, is_idle, rounds, unmarked}
-use Rattle.sheet.proofs.Members.{nth_below}
 use Rattle.sheet.proofs.Searches.{least_passes}
 use Rattle.sheet.proofs.Counts.{count_less}
 use Rattle.sheet.proofs.Agreement.{there, unmarked_before, grounded_part, grounded_first}
@@ -20,28 +21,24 @@ use Rattle.sheet.proofs.Verdicts.{verdict_allowed, allowed_verdict}
 use Rattle.sheet.proofs.Entering.{Adds, marks_added, adds_none, adds_more, adds_length, adds_same, enter_adds, enter_taken}
 
 -- what is there, or else what stands in for it
-else_some : {X : Type 0} (x : X) (o other : Option X) → or_else o other ≡ Some x → (o ≡ Some x) ⊎ (other ≡ Some x)
+else_some : {X : Type 0} (x : X) (o other : Option X) → option_or o other ≡ Some x → (o ≡ Some x) ⊎ (other ≡ Some x)
 else_some x None other e = inr e
 else_some x (Some y) other e = inl e
 
-else_none : {X : Type 0} (o other : Option X) → or_else o other ≡ None → (o ≡ None) × (other ≡ None)
+else_none : {X : Type 0} (o other : Option X) → option_or o other ≡ None → (o ≡ None) × (other ≡ None)
 else_none None other e = (refl, e)
-else_none (Some y) other e = let z : ◌≡◌ {A = ℕ} 0 1 = cc in absurd (omega arith)
+else_none (Some y) other e = absurd cc
 
 mapped_some : (by : ℕ → Reason) (w : Reason) (o : Option ℕ) → option_map by o ≡ Some w → (rule : ℕ) × (o ≡ Some rule) × (by rule ≡ w)
-mapped_some by w None e = let z : ◌≡◌ {A = ℕ} 0 1 = cc in absurd (omega arith)
+mapped_some by w None e = absurd cc
 mapped_some by w (Some rule) e = (rule, refl, cc)
 
 mapped_none : (by : ℕ → Reason) (o : Option ℕ) → option_map by o ≡ None → o ≡ None
 mapped_none by None e = refl
-mapped_none by (Some rule) e = let z : ◌≡◌ {A = ℕ} 0 1 = cc in absurd (omega arith)
-
-cond_some : {X : Type 0} (b : Bool) (x y : X) → cond b (Some x) None ≡ Some y → (b ≡ true) × (x ≡ y)
-cond_some true x y e = (refl, cc)
-cond_some false x y e = let z : ◌≡◌ {A = ℕ} 0 1 = cc in absurd (omega arith)
+mapped_none by (Some rule) e = absurd cc
 
 cond_none : {X : Type 0} (b : Bool) (x : X) → cond b (Some x) None ≡ None → b ≡ false
-cond_none true x e = let z : ◌≡◌ {A = ℕ} 0 1 = cc in absurd (omega arith)
+cond_none true x e = absurd cc
 cond_none false x e = refl
 
 module _ (R : Rules) where
@@ -82,7 +79,7 @@ module _ (R : Rules) where
           (a.0, cond_none (admits R s p Lack) Lack b.0, b.1)
 
       place : (rule : ℕ) (Q : Rule → Type 0) → There (rule_at R rule) Q → rule < length R.rules
-      place rule Q g = let at = there Q Q (rule_at R rule) g in nth_below R.rules rule at.0 at.1
+      place rule Q g = let at = there Q Q (rule_at R rule) g in slice_get_within R.rules rule at.0 at.1
 
       refused_all : (w : Reason) → Allowed R s.answer (marks s) (because p w) → admits R s p w ≡ false
       refused_all (Support rule) h = lowest_none Support nones.0 rule (place rule (Supports s.answer (marks s) p) h.grounds)

@@ -2,19 +2,20 @@
 use Rattle.std.proofs.Common.{◌≡◌, ℕ, zero, suc, ◌<◌, Bool, true, false, cond, ◌⊎◌, List, [], ◌∷◌, length, Some, None, Option, sym, refl, ap, ◌∙◌, subst, inl, inr, arith}
 use Rattle.std.specs.List.{AllByRecursion as Each, slice_get, HoldsAt, AllWithin}
 use Rattle.std.specs.Option.{MatchOption}
-use Rattle.base.specs.Search.{least, or_else}
+use Rattle.std.specs.Option.{option_or}
+use Rattle.base.specs.Search.{least}
 use Rattle.base.proofs.Search.{none_passes, none_found, least_found}
 use Rattle.sheet.specs.Lists.{passes}
 use Rattle.sheet.proofs.Members.{all_from, in_nth}
 
-some_parts : (n i : ℕ) (o : Option ℕ) (b : Bool) → or_else o (cond b (Some n) None) ≡ Some i → (o ≡ Some i) ⊎ ((o ≡ None) × (b ≡ true) × (n ≡ i))
+some_parts : (n i : ℕ) (o : Option ℕ) (b : Bool) → option_or o (cond b (Some n) None) ≡ Some i → (o ≡ Some i) ⊎ ((o ≡ None) × (b ≡ true) × (n ≡ i))
 some_parts n i None true e = inr (refl, refl, cc)
-some_parts n i None false e = let z : ◌≡◌ {A = ℕ} 0 1 = cc in absurd (omega arith)
+some_parts n i None false e = absurd cc
 some_parts n i (Some k) b e = inl e
 
 -- what is found passes
 pub least_passes : (p : ℕ → Bool) (n i : ℕ) → least p n ≡ Some i → (i < n) × (p i ≡ true)
-least_passes p zero i e = let z : ◌≡◌ {A = ℕ} 0 1 = cc in absurd (omega arith)
+least_passes p zero i e = absurd cc
 least_passes p (suc n) i e = elim (some_parts n i (least p n) (p n) e) [
   | inl h ↦ let r = least_passes p n i h in (omega (arith, r.0), r.1)
   | inr h ↦ (omega (arith, h.2), subst (λ k. p k ≡ true) h.2 h.1)
@@ -22,7 +23,7 @@ least_passes p (suc n) i e = elim (some_parts n i (least p n) (p n) e) [
 
 -- and nothing before it does
 pub least_first : (p : ℕ → Bool) (n i : ℕ) → least p n ≡ Some i → (j : ℕ) → j < i → p j ≡ false
-least_first p zero i e j l = let z : ◌≡◌ {A = ℕ} 0 1 = cc in absurd (omega arith)
+least_first p zero i e j l = absurd cc
 least_first p (suc n) i e j l = elim (some_parts n i (least p n) (p n) e) [
   | inl h ↦ least_first p n i h j l
   | inr h ↦ none_passes p n j (omega (arith, h.2)) h.0

@@ -27,7 +27,7 @@ module _ (R : Rules) (s : State) where
   Counted o = (n : ℕ) → o.0 ≡ Ok n → (1 ≤ n) × (length o.1.entries + n ≡ length s.entries)
 
   refused_counted : (e : SheetError) → Counted (refused s e)
-  refused_counted e n q = let z : ◌≡◌ {A = ℕ} 0 1 = cc in absurd (omega arith)
+  refused_counted e n q = absurd cc
 
   place_counted : (p : ℕ) (o : Option ℕ) → place_of s.entries p ≡ o → Counted (strike_at R s o)
   place_counted p None e n q = refused_counted NoEntry n q

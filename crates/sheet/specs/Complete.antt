@@ -1,7 +1,8 @@
 -- Completing a sheet: rounds over all atoms, until one enters nothing.
 use Rattle.std.specs.Prelude.{ℕ, zero, suc, Bool, cond, not, length, is_ok, Some, None, Ok, Option, ◌==◌}
 use Rattle.std.specs.Option.{option_map}
-use Rattle.base.specs.Search.{least, or_else}
+use Rattle.std.specs.Option.{option_or}
+use Rattle.base.specs.Search.{least}
 use Rattle.book.specs.Rules.{Rules}
 use Rattle.sheet.specs.declared.error.SheetError.TheVariants.{WrongState}
 use Rattle.sheet.specs.declared.proposal.Reason.{Reason}
@@ -29,7 +30,7 @@ lowest R s p by = option_map by (least (admits_by R s p by) (length R.rules))
 
 -- the first reason that is admitted: support by the lowest rule, else lack, else required by the lowest rule
 unfoldable pub first_reason : Rules → State → ℕ → Option Reason
-first_reason R s p = or_else (lowest R s p Support) (or_else (cond (admits R s p Lack) (Some Lack) None) (lowest R s p Required))
+first_reason R s p = option_or (lowest R s p Support) (option_or (cond (admits R s p Lack) (Some Lack) None) (lowest R s p Required))
 
 abbrev pub enter_first : Rules → State → ℕ → Option Reason → State
 enter_first R s p None = s

@@ -30,9 +30,7 @@ impl<'b, B: Book> Sheet<'b, B> {
     fn finish(&mut self) -> Result<u32, SheetError>
         ensures { (result, view B.meaning self.new) ≡ leaving complete_call (view B.meaning self.old) }
     {
-        if !self.opened {
-            return Err(SheetError::WrongState);
-        }
+        self.check_open()?;
         let atoms = self.book.atoms();
         self.rounds(atoms + 1);
         Ok(count_unmarked(&self.marks, atoms))

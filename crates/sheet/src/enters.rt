@@ -24,9 +24,7 @@ impl<'b, B: Book> Sheet<'b, B> {
     pub(crate) fn take(&mut self, proposal: Proposal) -> Result<(), SheetError>
         ensures { (result, view B.meaning self.new) ≡ leaving (λ R s. enter_call R s proposal) (view B.meaning self.old) }
     {
-        if !self.opened {
-            return Err(SheetError::WrongState);
-        }
+        self.check_open()?;
         self.judge().verdict(proposal)?;
         put_mark(&mut self.marks, proposal);
         self.entries.push_reserved(proposal);

@@ -1,6 +1,7 @@
 // Whether a proposal is allowed, and if not why.
-ghost use Rattle.std.specs.Prelude.{◌≡◌, is_ok};
-ghost use Rattle.sheet.specs.declared.error.SheetError.TheVariants.{MissingGround as Missing};
+ghost use Rattle.std.specs.Prelude.{◌≡◌, ℕ, is_ok};
+ghost use Rattle.base.specs.Closures.{Computes};
+ghost use Rattle.sheet.specs.declared.error.SheetError.{SheetError};
 ghost use Rattle.sheet.specs.declared.proposal.Reason.TheVariants.{Support as BySupport, Lack as ByLack, Required as ByRequired};
 ghost use Rattle.sheet.specs.Judges.{reason_judged, judged};
 ghost use Rattle.sheet.specs.Verdicts.{unless_at};
@@ -19,11 +20,12 @@ pub(crate) struct Judge<'a, B: Book> {
     pub(crate) marks: &'a [Mark],
 }
 
-// A refusal where a position of the rule's body lacks a ground.
-fn unless_missing(rule: u32, missing: Option<u32>) -> Result<(), SheetError>
-    ensures { result ≡ unless_at missing (Missing rule) }
+// The refusal at the place, if there is one.
+fn unless_at<F: Fn(u32) -> SheetError>(place: Option<u32>, refusal: F) -> Result<(), SheetError>
+    requires { F.IsAlwaysCallable refusal }
+    ensures { (told : ℕ → SheetError) → Computes (F.post refusal) told → result ≡ unless_at place told }
 {
-    missing.map_or(Ok(()), |at| Err(SheetError::MissingGround(rule, at)))
+    place.map_or(Ok(()), |at| Err(refusal(at)))
 }
 
 impl<'a, B: Book> Judge<'a, B> {
@@ -37,7 +39,8 @@ impl<'a, B: Book> Judge<'a, B> {
         if !self.is_in_head(rule, atom) {
             return Err(SheetError::UnsuitableRule(rule));
         }
-        unless_missing(rule, self.first_unmet(rule, |literal| self.holds(literal)))
+        let missing = self.first_unmet(rule, |literal| self.holds(literal));
+        unless_at(missing, |at| SheetError::MissingGround(rule, at))
     }
 
     fn lack_verdict(&self, atom: u32) -> Result<(), SheetError>
@@ -47,7 +50,7 @@ impl<'a, B: Book> Judge<'a, B> {
             return Err(SheetError::WrongSide);
         }
         let unfailing = self.first_unfailing(atom);
-        unfailing.map_or(Ok(()), |rule| Err(SheetError::MissingGround(rule, 0)))
+        unless_at(unfailing, |rule| SheetError::MissingGround(rule, 0))
     }
 
     fn required_verdict(&self, atom: u32, rule: u32) -> Result<(), SheetError>
@@ -60,7 +63,8 @@ impl<'a, B: Book> Judge<'a, B> {
             return Err(SheetError::UnsuitableRule(rule));
         }
         let test = |literal| is_positive(atom, literal) || self.holds(literal);
-        unless_missing(rule, self.first_unmet(rule, test))
+        let missing = self.first_unmet(rule, test);
+        unless_at(missing, |at| SheetError::MissingGround(rule, at))
     }
 
     fn reason_verdict(&self, atom: u32, reason: Reason) -> Result<(), SheetError>

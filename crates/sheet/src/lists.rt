@@ -46,7 +46,8 @@ impl<'a, B: Book> Opening<'a, B> {
         self.is_unknown_at(at) || self.is_repeated_at(at)
     }
 
-    // The first position with an atom that the book does not have, or that stands earlier in the list.
+    // The first position with an atom that the book does not have, or that stands earlier in the list. By its place, since
+    // what stands before it counts.
     pub(crate) fn first_fault(&self) -> Option<u32>
         ensures { result ≡ first_fault (B.meaning self.now.book.now) self.now.literals.now }
     {

@@ -31,6 +31,8 @@ fn first_place<T, L: Fn(u32) -> Option<T>, F: Fn(T) -> bool>(
     (0..count).find(|at| look(*at).is_some_and(|item| test(item)))
 }
 
+// A rule is named by its place throughout: a judge goes over all rules of its book, and a value for one rule would be made
+// for one question.
 impl<'a, B: Book> Judge<'a, B> {
     // Whether the atom is in the answer.
     pub(crate) fn is_in_answer(&self, atom: u32) -> bool
@@ -85,7 +87,8 @@ impl<'a, B: Book> Judge<'a, B> {
         requires { F.IsAlwaysCallable test }
         ensures { (p : ℤ → Bool) → ComputesOnLiterals (F.post test) p → result ≡ some_literal p (rule_of B.meaning self.now rule) }
     {
-        self.first_unmet(rule, |literal| !test(literal)).is_some()
+        let size = self.book.body_size(rule).unwrap_or(0);
+        first_place(size, |at| self.book.literal(rule, at), test).is_some()
     }
 
     // Whether an atom of the head passes the test.
@@ -156,13 +159,15 @@ impl<'a, B: Book> Judge<'a, B> {
     }
 
     // Whether it is a plain rule whose body is true under the answer while no head atom is.
-    #[tactic(auto, unfolding(crate::specs::Judges::some_head, crate::specs::Judges::some_literal))]
+    #[tactic(auto, unfolding(crate::specs::Judges::some_head))]
     fn is_broken(&self, rule: u32) -> bool
         ensures { result ≡ broken_at (rules_of B.meaning self.now) (answer_of self.now) rule }
     {
         self.book.kind(rule) == Some(Kind::Plain)
             && !self.has_true_head(rule)
-            && !self.any_literal(rule, |literal| !self.is_true(literal))
+            && self
+                .first_unmet(rule, |literal| self.is_true(literal))
+                .is_none()
     }
 
     // The first rule that is broken under the answer.

@@ -10,7 +10,6 @@ use crate::judge::Judge;
 use crate::mark::Mark;
 use crate::proposal::Proposal;
 use crate::sheets::put_mark;
-use base::parts::part;
 use book::book::Book;
 
 // Where the atom's entry stands.
@@ -55,8 +54,9 @@ pub(crate) fn redo<B: Book>(
     ensures room { result + unmarked_in marks.new ≤ 1024 }
     ensures kept { open_with answer.now assumed.now (take result entries.new) ≡ enter_all (B.meaning book.now) (open_with answer.now assumed.now (take from entries.old)) (drop (from + 1) entries.old) }
 {
-    mark_again(marks, assumed, part(entries, 0, from));
-    // Entries move up in the list that is read, so their places are kept by hand.
+    mark_again(marks, assumed, &entries[..from]);
+    // Entries move up in the list that is read, so their places are kept by hand; `retain` would be lent the marks, which
+    // it has to change, by its closure, and what a closure leaves in a list that it holds is not known.
     let mut to = from;
     for at in from + 1..entries.len() {
         let entry = entries[at];

@@ -8,7 +8,8 @@ use crate::proposal::Proposal;
 use book::book::Book;
 
 // The memory of all lists is asked for once, so that a sheet that is not open has them too, and `opened` says which it is.
-// The answer, the assumed atoms and the marks change in different calls, so each is a list that is lent alone.
+// The answer, the assumed atoms and the marks are three sets of atoms, and each is judged by alone: one list of records would
+// have to be read apart wherever one of them is asked.
 #[derive(Drop)]
 pub struct Sheet<'b, B: Book> {
     pub(crate) book: &'b B,

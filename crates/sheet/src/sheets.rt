@@ -1,5 +1,6 @@
 // Making a sheet, looking at it, and entering.
-ghost use Rattle.std.specs.Prelude.{◌≡◌, IfOk, slice_set};
+ghost use Rattle.std.specs.Prelude.{◌≡◌, cond, Ok, Err, IfOk, slice_set};
+ghost use Rattle.sheet.specs.declared.error.SheetError.TheVariants.{WrongState};
 ghost use Rattle.sheet.specs.Judges.{rules_of, answer_of, marks_of};
 ghost use Rattle.sheet.specs.States.{new as blank, marks};
 ghost use Rattle.sheet.specs.Law.{SoundAndReliable};
@@ -7,6 +8,7 @@ ghost use Rattle.sheet.specs.LookUps.{mark_of, entry_in};
 ghost use Rattle.sheet.specs.Marks.{claim, mark_for};
 ghost use Rattle.sheet.specs.View.{view};
 
+use crate::error::SheetError;
 use crate::judge::Judge;
 use crate::mark::Mark;
 use crate::proposal::Proposal;
@@ -43,6 +45,17 @@ impl<'b, B: Book> Sheet<'b, B> {
             entries,
             marks,
         })
+    }
+
+    // A refusal unless the sheet is open.
+    pub(crate) fn check_open(&self) -> Result<(), SheetError>
+        ensures { result ≡ cond (view B.meaning self.now).state.opened (Ok tt) (Err WrongState) }
+    {
+        if self.opened {
+            Ok(())
+        } else {
+            Err(SheetError::WrongState)
+        }
     }
 
     // What a proposal is judged by now.

@@ -24,9 +24,7 @@ impl<'b, B: Book> Sheet<'b, B> {
     fn take_off(&mut self, atom: u32) -> Result<u32, SheetError>
         ensures { (result, view B.meaning self.new) ≡ leaving (λ R s. strike_call R s atom) (view B.meaning self.old) }
     {
-        if !self.opened {
-            return Err(SheetError::WrongState);
-        }
+        self.check_open()?;
         if !is_atom(self.book.atoms(), atom) {
             return Err(SheetError::UnknownAtom(0));
         }

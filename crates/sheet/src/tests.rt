@@ -1,4 +1,5 @@
-// Tests of atoms, marks and literals.
+// Tests of atoms, marks and literals. Marks are lent as the list that they are: that it has a place for each atom, and what
+// it says with the entries, are facts of the sheet, and a struct around it would be opened for each.
 ghost use Rattle.std.specs.Prelude.{◌≡◌, ◌&&◌, nat_le};
 ghost use Rattle.sheet.specs.Marks.{is_unmarked};
 ghost use Rattle.sheet.specs.Bodies.{is_positive};
@@ -35,5 +36,5 @@ pub(crate) fn mark_assumed(assumed: bool) -> Mark
 pub(crate) fn is_positive(atom: u32, literal: i32) -> bool
     ensures { result ≡ is_positive atom literal }
 {
-    literal >= 0 && literal as u32 == atom
+    u32::try_from(literal).is_ok_and(|n| n == atom)
 }

@@ -5,7 +5,8 @@ use Rattle.reader.specs.Fill.{parts_in}
 use Rattle.reader.specs.Seen.{numbers_in, meant, statements_left}
 use Rattle.reader.proofs.Cases.{none_assumed}
 use Rattle.reader.proofs.Filling.{filled_none, part_none, part_first, part_rest, part_then}
-use Rattle.reader.proofs.Penned.{pen_filled, not_short}
+use Rattle.reader.proofs.Penned.{pen_filled}
+use Rattle.reader.proofs.Wholes.{never}
 use Rattle.reader.proofs.fills.fill_assumed.Goals as goal
 
 pub loop-statement-preserved-in-Continue-1 : goal.loop-statement-preserved-in-Continue-1
@@ -28,7 +29,7 @@ returns-in_err-put_numbers c =
     let ss = statements_left c.next.new.self in
     let room = ap (λ qs. has_room (page p) (parts_in assumed_in qs)) (sym c.in-Some.ensures.steps) ∙ c.loop-statement.invariant.2 in
     let fits = ap (λ t. has_room (page p) (assumed_in (meant t))) (sym c.in-Assumption.is) ∙ part_first assumed_in p s ss room in
-    not_short (sym c.in_err-put_numbers.was ∙ (pen_filled p c.put_numbers.new.pen (numbers_in c.in-Assumption.literals) c.put_numbers.result fits c.put_numbers.ensures).0)
+    never (sym c.in_err-put_numbers.was ∙ (pen_filled p c.put_numbers.new.pen (numbers_in c.in-Assumption.literals) c.put_numbers.result fits c.put_numbers.ensures).0)
 
 pub loop-statement-preserved : goal.loop-statement-preserved
 loop-statement-preserved c =

@@ -7,7 +7,8 @@ use Rattle.reader.specs.Fill.{integers_in}
 use Rattle.reader.specs.Seen.{rule_meant, meant, statements_left}
 use Rattle.reader.proofs.Cases.{no_rule}
 use Rattle.reader.proofs.Filling.{BothPut, RoomForRules, RulesPut, filled_none, rules_none, rules_first, rules_rest, rules_then}
-use Rattle.reader.proofs.Penned.{pen_takes, pen_filled, not_short}
+use Rattle.reader.proofs.Penned.{pen_takes, pen_filled}
+use Rattle.reader.proofs.Wholes.{never}
 use Rattle.reader.proofs.fills.fill_rules.Goals as goal
 
 pub returns-in_err-put_all : goal.returns-in_err-put_all
@@ -17,7 +18,7 @@ returns-in_err-put_all c =
     let s = meant c.in-Some.statement in
     let room = rules_first p q s (statements_left c.next.new.self) (subst (RoomForRules p q) c.in-Some.ensures.steps c.loop-statement.invariant.2) in
     let fits = ap (λ t. has_room (page q) (starts_from p.at (rules_in (meant t)))) (sym c.in-Rule.is) ∙ room.starts in
-    not_short (sym c.in_err-put_all.was ∙ (pen_filled q c.put_all.new.self (p.at ∷ []) c.put_all.result fits (pen_takes q c.put_all.new.self (p.at ∷ []) _ refl c.put_all.result c.put_all.ensures.put c.put_all.ensures.same_list)).0)
+    never (sym c.in_err-put_all.was ∙ (pen_filled q c.put_all.new.self (p.at ∷ []) c.put_all.result fits (pen_takes q c.put_all.new.self (p.at ∷ []) _ refl c.put_all.result c.put_all.ensures.put c.put_all.ensures.same_list)).0)
 
 pub loop-statement-preserved-in-Continue-branch-2 : goal.loop-statement-preserved-in-Continue-branch-2
 loop-statement-preserved-in-Continue-branch-2 c =
@@ -48,7 +49,7 @@ returns-in_err-put_rule c =
     let room = rules_first p q (meant c.in-Some.statement) (statements_left c.next.new.self) (subst (RoomForRules p q) c.in-Some.ensures.steps c.loop-statement.invariant.2) in
     let zs = encode_rule (rule_meant c.in-Rule.rule) in
     let whole = ap (λ r. encode (rules_in (meant r))) c.in-Rule.is ∙ append-nil zs in
-    not_short (sym c.in_err-put_rule.was ∙ (pen_filled p c.put_rule.new.pen zs c.put_rule.result (ap (has_room (page p)) (sym whole) ∙ room.integers) c.put_rule.ensures).0)
+    never (sym c.in_err-put_rule.was ∙ (pen_filled p c.put_rule.new.pen zs c.put_rule.result (ap (has_room (page p)) (sym whole) ∙ room.integers) c.put_rule.ensures).0)
 
 pub loop-statement-preserved : goal.loop-statement-preserved
 loop-statement-preserved c =

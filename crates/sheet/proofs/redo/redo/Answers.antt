@@ -1,6 +1,6 @@
-use Rattle.std.proofs.Common.{ℕ, map, refl, ap, ◌∙◌, arith}
+use Rattle.std.proofs.Common.{ℕ, refl, ap, ◌∙◌, arith}
 use Rattle.sheet.specs.Marks.{assuming}
-use Rattle.sheet.specs.Kept.{flagged, marking, with_marks, mark_assumed}
+use Rattle.sheet.specs.Kept.{flagged, marking}
 use Rattle.sheet.proofs.Redone.{carry, turn_in, turn_out}
 use Rattle.sheet.proofs.Stored.{again_above, room_above}
 use Rattle.sheet.proofs.redo.redo.Goals as goal
@@ -11,8 +11,7 @@ loop-at-init g c =
     let flags = c.args.assumed.now in
     let es = c.args.entries.now in
     let ms = c.args.marks.now in
-    let put = c.mark_again.ensures ∙ ap (with_marks (map mark_assumed flags)) c.part.ensures.part in
-    let tied = λ (a : ℕ). ap (λ ns. marking ns a) put ∙ again_above flags es c.args.from ms c.requires.sized.0 c.requires.sized.1 c.requires.tied.0 a in
+    let tied = λ (a : ℕ). ap (λ ns. marking ns a) c.mark_again.ensures ∙ again_above flags es c.args.from ms c.requires.sized.0 c.requires.sized.1 c.requires.tied.0 a in
     record { before = omega arith; tied = tied; rest = refl; room = room_above (assuming (flagged flags)) es c.args.from ms _ (omega (arith, c.requires.inside)) c.requires.tied.0 tied c.requires.tied.1 }
 
 pub loop-at-preserved : goal.loop-at-preserved

@@ -1,4 +1,4 @@
-use Rattle.std.proofs.Common.{◌≡◌, suc, ◌+◌, vec_items, ap, ◌∙◌, add-one}
+use Rattle.std.proofs.Common.{◌≡◌, suc, ◌+◌, vec_items, ap, ◌∙◌, add-one, rules}
 use Rattle.sheet.specs.Complete.{rounds}
 use Rattle.sheet.specs.Kept.{marking}
 use Rattle.sheet.specs.Lists.{how_many}
@@ -13,5 +13,5 @@ returns g c =
     let t = c.rounds.new.self in
     let most : c.atoms-atoms.result + 1 ≡ suc v.rules.atoms = add-one _ ∙ ap suc c.atoms-atoms.ensures in
     let done = c.rounds.ensures ∙ ap (λ n. changing (λ R s. rounds R n s) v) most in
-    complete_takes v.rules v.state c.if-not-self.false (view g.B.Book.meaning t) (vec_items t.marks) c.count_unmarked.result done t.tied
+    complete_takes v.rules v.state (search rules) (view g.B.Book.meaning t) (vec_items t.marks) c.count_unmarked.result done t.tied
     (c.count_unmarked.ensures ∙ ap (λ ms. how_many (λ a. is_unmarked (marking ms a)) c.atoms-atoms.result) c.deref.ensures.value ∙ ap (how_many (λ a. is_unmarked (marking (vec_items t.marks) a))) c.atoms-atoms.ensures)
