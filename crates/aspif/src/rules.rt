@@ -11,7 +11,8 @@ use base::short::TooShort;
 use base::sink::Sink;
 use book::book::Book;
 
-// So many numbers, each known by its place.
+// So many numbers, each known by its place, as a book answers. (A `for` over `filter_map` was tried: in a function that is
+// generic over the closure, what the check makes of such a loop is refused.)
 fn put_each<S: Sink, F: Fn(u32) -> Option<i64>>(
     sink: &mut S,
     count: u32,

@@ -27,7 +27,8 @@ fn first_faulty_fact(atoms: u32, facts: &[u32]) -> Option<u32>
         .map(|i| i as u32)
 }
 
-// Nothing where each fact is an atom and the limits are kept, or else the first thing that is wrong.
+// Nothing where each fact is an atom and the limits are kept, or else the first thing that is wrong. N and the list stay
+// two arguments: the book made of them is the struct that has both.
 #[tactic(auto, using(crate::proofs::Facted::facts_faithful))]
 pub fn check_facts(atoms: u32, facts: &[u32]) -> Result<(), BookError>
     ensures verdict { result ≡ facts_verdict atoms facts.now }

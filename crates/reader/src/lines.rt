@@ -20,7 +20,7 @@ fn line_size(bytes: &[u8]) -> usize
 }
 
 impl<'a> Cursor<'a> {
-    // A count, and then so many numbers.
+    // A count, and then so many numbers. Both are named, since the definition of a line names both.
     #[tactic(auto, using(crate::proofs::Steps::row_reads), unfolding(crate::specs::Lines::counted_at))]
     fn counted(&mut self, count: Count, items: Items) -> Result<Numbers<'a>, TextError>
         ensures reads { Reads row_to (counted_at count items) self.old result self.new }
@@ -118,7 +118,8 @@ impl<'a> Cursor<'a> {
         })
     }
 
-    // What the next line says; nothing where it is the closing line.
+    // What the next line says; nothing where it is the closing line. The kinds are the numbers that the format gives them,
+    // and those that are passed over have no meaning here, so there is no type of them.
     #[tactic(auto, unfolding(crate::specs::Lines::line_at))]
     pub(crate) fn statement(&mut self) -> Result<Option<Statement<'a>>, TextError>
         ensures { Reads line_to line_at self.old result self.new }

@@ -19,7 +19,7 @@ use reader::lists::Lists;
 use reader::pieces::Counts;
 use reader::reading::read;
 
-// What was read, as lists of numbers.
+// What was read, as lists of numbers. The text and the lists are lent apart: the lists are the caller's to use again.
 fn rules_of<'a>(counts: Counts, text: &'a [u8], lists: &'a Lists<'_>) -> RuleLists<'a>
     ensures { Fronts counts text.now (held lists.now) result }
 {

@@ -53,7 +53,8 @@ impl<'b, B: Book> Sheet<'b, B> {
             .map(by)
     }
 
-    // Support by the lowest rule, else lack of support, else required by the lowest rule.
+    // Support by the lowest rule, else lack of support, else required by the lowest rule. (A chain of `or_else` was tried: of
+    // a closure that has the sheet, what it answers is not known after it.)
     fn first_reason(&self, atom: u32) -> Option<Reason>
         ensures { result ≡ first_reason (view B.meaning self.now).rules (view B.meaning self.now).state atom }
     {
@@ -97,7 +98,7 @@ impl<'b, B: Book> Sheet<'b, B> {
     }
 }
 
-// How many of the atoms from 1 on pass the test.
+// How many of the atoms from 1 on pass the test. The test is the caller's, so that what is counted is said there.
 fn count_passing<F: Fn(u32) -> bool>(atoms: u32, test: F) -> u32
     requires { F.IsAlwaysCallable test }
     ensures { (p : ℕ → Bool) → Computes (F.post test) p → result ≡ how_many p atoms }
