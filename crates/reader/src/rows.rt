@@ -65,17 +65,17 @@ impl Items {
 }
 
 impl Cursor<'_> {
-    // A count, up to its limit.
+    // A count, up to its limit. What a line says is told apart by a `match` with ranges and guards throughout.
     #[tactic(auto, unfolding(crate::specs::Rows::count_at))]
     pub(crate) fn count(&mut self, count: Count) -> Result<u32, TextError>
         ensures { Reads counted_to (count_at count) self.old result self.new }
     {
         let at = self.at as u32;
-        let n = u32::try_from(self.field(count.after())?).map_err(|_| TextError::Malformed(at))?;
-        if n > count.limit() {
-            return Err(count.fault(at));
+        match self.field(count.after())? {
+            i32::MIN..=-1 => Err(TextError::Malformed(at)),
+            n if n.unsigned_abs() > count.limit() => Err(count.fault(at)),
+            n => Ok(n.unsigned_abs()),
         }
-        Ok(n)
     }
 
     // A number of a row, with so many more behind it.

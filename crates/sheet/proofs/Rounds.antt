@@ -1,9 +1,8 @@
 -- Complete: what it enters is allowed, and when it stops nothing is.
 use Rattle.std.proofs.Common.{◌≡◌, ℕ, zero, suc, ◌<◌, Bool, true, false, cond, ◌⊎◌, List, [], ◌∷◌, ◌++◌, length, is_ok, Some, None, Option, sym, refl, ap, ◌∙◌, subst, inl, inr, append-nil, arith, length-append}
-use Rattle.std.specs.Option.{option_map}
+use Rattle.std.specs.Option.{option_map, option_or}
 use Rattle.std.proofs.lemmas.Option.{cond_some, slice_get_within}
 use Rattle.std.proofs.lemmas.Bool.{both_ways, cond_both, eqb-true, eq-eqb, cases_eq}
-use Rattle.std.specs.Option.{option_or}
 use Rattle.base.specs.Search.{least}
 use Rattle.base.proofs.Search.{none_passes}
 use Rattle.book.specs.Rules.{Rule, Rules, rule_at, Atom}

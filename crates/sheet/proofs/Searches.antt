@@ -1,8 +1,7 @@
 -- What a search for the first number, or the first place of a list, has found.
 use Rattle.std.proofs.Common.{◌≡◌, ℕ, zero, suc, ◌<◌, Bool, true, false, cond, ◌⊎◌, List, [], ◌∷◌, length, Some, None, Option, sym, refl, ap, ◌∙◌, subst, inl, inr, arith}
 use Rattle.std.specs.List.{AllByRecursion as Each, slice_get, HoldsAt, AllWithin}
-use Rattle.std.specs.Option.{MatchOption}
-use Rattle.std.specs.Option.{option_or}
+use Rattle.std.specs.Option.{MatchOption, option_or}
 use Rattle.base.specs.Search.{least}
 use Rattle.base.proofs.Search.{none_passes, none_found, least_found}
 use Rattle.sheet.specs.Lists.{passes}

@@ -1,7 +1,6 @@
 -- Completing a sheet: rounds over all atoms, until one enters nothing.
 use Rattle.std.specs.Prelude.{ℕ, zero, suc, Bool, cond, not, length, is_ok, Some, None, Ok, Option, ◌==◌}
-use Rattle.std.specs.Option.{option_map}
-use Rattle.std.specs.Option.{option_or}
+use Rattle.std.specs.Option.{option_map, option_or}
 use Rattle.base.specs.Search.{least}
 use Rattle.book.specs.Rules.{Rules}
 use Rattle.sheet.specs.declared.error.SheetError.TheVariants.{WrongState}
