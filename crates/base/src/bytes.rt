@@ -1,4 +1,4 @@
-// Numbers in decimal, and items as they are, put at a place of a list of the caller's.
+// Numbers in decimal, and items as they are, put at a place of a list of the caller's: for whoever has a list and no pen.
 ghost use Rattle.std.specs.Prelude.{◌≡◌, ◌≤◌, length};
 ghost use Rattle.base.specs.Puts.{put_answer, put_into};
 ghost use Rattle.std.specs.Fmt.{signed_decimal};

@@ -1,4 +1,5 @@
-// What has a text: how long the text is, and the text at the front of a buffer.
+// What has a text: how long the text is, and the text at the front of a buffer. The standard library's `Display` does not say
+// how long its text is. Buffers are the caller's, and the size is answered: below the programs only a sheet asks for memory.
 ghost use Rattle.std.specs.Prelude.{◌≡◌, ℕ, List, length};
 ghost use Rattle.base.specs.Printed.{size_within, front_answer, front_into};
 ghost use Rattle.base.specs.Sinks.{Takes};

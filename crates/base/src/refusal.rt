@@ -1,4 +1,4 @@
-// What every refusal is told by: its number, and two place numbers, 0 where one is not used. The number is what is
+// What every refusal is told by: its number, and two place numbers, printed as 0 where one is not used. The number is what is
 // printed; which refusal it is, is a case of the error of its layer.
 #[derive(Clone, Copy, Debug, PartialEq, Eq)]
 pub struct Refusal {

@@ -15,7 +15,7 @@ fn is_sound_fact(atoms: u32, facts: &[u32], i: usize) -> bool
     requires { i < length facts.now }
     ensures { result ≡ sound_fact atoms facts.now i }
 {
-    i < 2048 && 1 <= facts[i] && facts[i] <= atoms
+    i < 2048 && (1..=atoms).contains(&facts[i])
 }
 
 // By its place, since past the limit any fact is faulty. (With `enumerate` each closure would take a pair apart.)

@@ -27,8 +27,8 @@ fn is_as_known(rt: &HostRuntime, name: &str) -> anyhow::Result<bool> {
     let text = fs::read(rt, format!(in heap; "{name}.aspif")?)?;
     let known = fs::read(rt, format!(in heap; "{name}.rules")?)?;
     let mut out = vec![in heap; 0u8; ROOM]?;
-    // Room for every text that can be read. A function that makes the lists and gives the text back would be a call more,
-    // which can fail for want of memory, to save these lines in two programs.
+    // Room for every text that can be read. A function that makes it for both programs would lie in `report`, which works in
+    // what it is lent and asks for no memory.
     let mut integers = vec![in heap; 0i32; 16_384]?;
     let mut starts = vec![in heap; 0u32; 2048]?;
     let mut places = vec![in heap; 0u32; 1024]?;

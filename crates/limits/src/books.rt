@@ -1,3 +1,4 @@
+// Books at their limits. Each test makes what it needs, so that it can be read by itself.
 use crate::made::Lists;
 use book::book::Book;
 use book::error::BookError;

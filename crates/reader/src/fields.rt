@@ -9,7 +9,7 @@ use crate::pieces::After;
 use aspif::error::TextError;
 use base::parts::item_or;
 
-// The kinds of statement that have more numbers.
+// The kinds of statement that have more numbers. Kinds are the numbers that the format gives them.
 fn goes_on(kind: i32) -> bool
     ensures { result ≡ goes_on kind }
 {
@@ -32,6 +32,13 @@ impl After {
 }
 
 impl Cursor<'_> {
+    // Where the text is read up to, as a fault tells it.
+    pub(crate) fn offset(&self) -> u32
+        ensures { result ≡ self.now.at }
+    {
+        self.at as u32
+    }
+
     fn is_minus(&self) -> bool
         ensures { result ≡ minus_at self.now.text.now self.now.at }
     {
@@ -70,7 +77,7 @@ impl Cursor<'_> {
         ensures reads { Reads (field_to self.old.text.now) (field_at after) self.old result self.new }
         ensures forward { IfOk result (λ _. self.old.at < self.new.at) }
     {
-        let malformed = TextError::Malformed(self.at as u32);
+        let malformed = TextError::Malformed(self.offset());
         let from = self.digits_start();
         let end = from + digits_count(&self.text[from..]);
         let numeral = Numeral {

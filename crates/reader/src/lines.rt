@@ -20,7 +20,7 @@ fn line_size(bytes: &[u8]) -> usize
 }
 
 impl<'a> Cursor<'a> {
-    // A count, and then so many numbers. Both are named, since the definition of a line names both.
+    // A count, and then so many numbers. Both are named: a count of the bytes of a name has no numbers after it.
     #[tactic(auto, using(crate::proofs::Steps::row_reads), unfolding(crate::specs::Lines::counted_at))]
     fn counted(&mut self, count: Count, items: Items) -> Result<Numbers<'a>, TextError>
         ensures reads { Reads row_to (counted_at count items) self.old result self.new }
@@ -41,7 +41,7 @@ impl<'a> Cursor<'a> {
     fn head_type(&mut self) -> Result<Kind, TextError>
         ensures { Reads headed_to head_type_at self.old result self.new }
     {
-        let at = self.at as u32;
+        let at = self.offset();
         let number = self.field(After::Space)?;
         Kind::try_from(number).map_err(|_| TextError::Malformed(at))
     }
@@ -51,7 +51,7 @@ impl<'a> Cursor<'a> {
     fn body_type(&mut self) -> Result<(), TextError>
         ensures { Reads (λ _ next. next) body_type_at self.old result self.new }
     {
-        let at = self.at as u32;
+        let at = self.offset();
         match self.field(After::Space)? {
             t if t < 0 || t > 1 => Err(TextError::Malformed(at)),
             0 => Ok(()),
@@ -124,7 +124,7 @@ impl<'a> Cursor<'a> {
     pub(crate) fn statement(&mut self) -> Result<Option<Statement<'a>>, TextError>
         ensures { Reads line_to line_at self.old result self.new }
     {
-        let at = self.at as u32;
+        let at = self.offset();
         let kind = self.field(After::ByKind)?;
         let statement = match kind {
             0 => return Ok(None),

@@ -31,7 +31,8 @@ fn atom_named(output: Output<'_>) -> Option<u32>
     }
 }
 
-// For each atom where its name stands in the text and how many bytes it has, in two lists of the caller's.
+// For each atom where its name stands in the text and how many bytes it has, in two lists of the caller's, as `Lists` has
+// them.
 #[derive(Drop)]
 struct NameTable<'a> {
     places: &'a mut [u32],
@@ -79,7 +80,8 @@ impl NameTable<'_> {
     }
 }
 
-// The names that outputs give, into lists where no atom has one yet.
+// The names that outputs give, into lists where no atom has one yet. (A table made of two fields of `Lists` was tried: what
+// these hold after it is not known.)
 pub(crate) fn fill_names(statements: Statements<'_>, places: &mut [u32], lengths: &mut [u32])
     ensures places { places.new ≡ (with_names (both places.old lengths.old) (statements_left statements.entry)).starts }
     ensures lengths { lengths.new ≡ (with_names (both places.old lengths.old) (statements_left statements.entry)).lengths }

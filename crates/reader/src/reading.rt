@@ -59,7 +59,7 @@ impl Lists<'_> {
             && counts.assumed <= self.assumed.len()
     }
 
-    // All lists from a text that has been counted.
+    // All lists from a text that has been counted. Nothing is refused here, as `done` says; a pen's call alone could refuse.
     fn fill(&mut self, text: &[u8], counts: Counts) -> Result<(), TextError>
         requires counted { counts_of nothing (statements_of text.now) ≡ Ok counts }
         requires room { has_room_in (held self.old) counts ≡ true }

@@ -70,7 +70,7 @@ impl Cursor<'_> {
     pub(crate) fn count(&mut self, count: Count) -> Result<u32, TextError>
         ensures { Reads counted_to (count_at count) self.old result self.new }
     {
-        let at = self.at as u32;
+        let at = self.offset();
         match self.field(count.after())? {
             i32::MIN..=-1 => Err(TextError::Malformed(at)),
             n if n.unsigned_abs() > count.limit() => Err(count.fault(at)),
@@ -83,7 +83,7 @@ impl Cursor<'_> {
     pub(crate) fn item(&mut self, items: Items, more: u32) -> Result<i32, TextError>
         ensures { Reads (field_to self.old.text.now) (item_at items more) self.old result self.new }
     {
-        let at = self.at as u32;
+        let at = self.offset();
         let number = self.field(items.after(more))?;
         if !items.allows(number) {
             return Err(TextError::UnknownAtom(at));

@@ -62,7 +62,7 @@ pub(crate) fn survey(text: &[u8]) -> Result<Counts, TextError>
         line = cursor.at;
     }
     if cursor.at != text.len() {
-        return Err(TextError::Malformed(cursor.at as u32));
+        return Err(TextError::Malformed(cursor.offset()));
     }
     Ok(counts)
 }

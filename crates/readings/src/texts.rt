@@ -1,3 +1,4 @@
+// Texts that are read. Each test makes what it needs, so that it can be read by itself.
 use aspif::error::TextError;
 use reader::lists::Lists;
 use reader::pieces::Counts;

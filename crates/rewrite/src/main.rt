@@ -16,8 +16,8 @@ fn run(rt: &HostRuntime) -> anyhow::Result<()> {
     let mut text = Vec::new(heap);
     rt.stdin().take(TAKEN).read_to_end(&mut text)?;
     let mut out = vec![in heap; 0u8; ROOM]?;
-    // Room for every text that can be read. A function that makes the lists and gives the text back would be a call more,
-    // which can fail for want of memory, to save these lines in two programs.
+    // Room for every text that can be read. A function that makes it for both programs would lie in `report`, which works in
+    // what it is lent and asks for no memory.
     let mut integers = vec![in heap; 0i32; 16_384]?;
     let mut starts = vec![in heap; 0u32; 2048]?;
     let mut places = vec![in heap; 0u32; 1024]?;

@@ -1,3 +1,4 @@
+// Sheets that are called. Each test makes what it needs, so that it can be read by itself.
 use crate::books::{circle, invoice};
 use numbers::numbers::NumbersBook;
 use sheet::call::Call;

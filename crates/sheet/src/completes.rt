@@ -98,7 +98,7 @@ impl<'b, B: Book> Sheet<'b, B> {
     }
 }
 
-// How many of the atoms from 1 on pass the test. The test is the caller's, so that what is counted is said there.
+// How many of the atoms from 1 on pass the test. The test is the caller's: what is counted is said in a call of one line.
 fn count_passing<F: Fn(u32) -> bool>(atoms: u32, test: F) -> u32
     requires { F.IsAlwaysCallable test }
     ensures { (p : ℕ → Bool) → Computes (F.post test) p → result ≡ how_many p atoms }

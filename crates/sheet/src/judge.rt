@@ -36,7 +36,7 @@ impl<'a, B: Book> Judge<'a, B> {
         if !self.is_in_answer(atom) {
             return Err(SheetError::WrongSide);
         }
-        if !self.is_in_head(rule, atom) {
+        if !self.is_in_head(atom, rule) {
             return Err(SheetError::UnsuitableRule(rule));
         }
         let missing = self.first_unmet(rule, |literal| self.holds(literal));
@@ -59,7 +59,7 @@ impl<'a, B: Book> Judge<'a, B> {
         if self.is_in_answer(atom) {
             return Err(SheetError::WrongSide);
         }
-        if !self.can_require(rule, atom) {
+        if !self.can_require(atom, rule) {
             return Err(SheetError::UnsuitableRule(rule));
         }
         let test = |literal| is_positive(atom, literal) || self.holds(literal);

@@ -101,7 +101,7 @@ impl<'a, B: Book> Judge<'a, B> {
     }
 
     // Whether the rule has the atom in its head.
-    pub(crate) fn is_in_head(&self, rule: u32, atom: u32) -> bool
+    pub(crate) fn is_in_head(&self, atom: u32, rule: u32) -> bool
         ensures { result ≡ some_head (nat_eq atom) (rule_of B.meaning self.now rule) }
     {
         self.any_head(rule, |head| head == atom)
@@ -122,7 +122,7 @@ impl<'a, B: Book> Judge<'a, B> {
     }
 
     // Whether the atom stands positive in the rule's body.
-    fn is_in_body(&self, rule: u32, atom: u32) -> bool
+    fn is_in_body(&self, atom: u32, rule: u32) -> bool
         ensures { result ≡ some_literal (is_positive atom) (rule_of B.meaning self.now rule) }
     {
         self.any_literal(rule, |literal| is_positive(atom, literal))
@@ -130,10 +130,10 @@ impl<'a, B: Book> Judge<'a, B> {
 
     // Whether the rule is a constraint with the atom positive in its body.
     #[tactic(auto, unfolding(crate::specs::Judges::some_literal))]
-    pub(crate) fn can_require(&self, rule: u32, atom: u32) -> bool
+    pub(crate) fn can_require(&self, atom: u32, rule: u32) -> bool
         ensures { result ≡ passes (fits_required atom) (rule_of B.meaning self.now rule) }
     {
-        self.is_constraint(rule) && self.is_in_body(rule, atom)
+        self.is_constraint(rule) && self.is_in_body(atom, rule)
     }
 
     // Whether a literal of the body fails.
@@ -145,17 +145,17 @@ impl<'a, B: Book> Judge<'a, B> {
 
     // Whether the rule has the atom in its head, and no literal of its body fails.
     #[tactic(auto, unfolding(crate::specs::Judges::some_head, crate::specs::Judges::some_literal))]
-    fn is_unfailing(&self, rule: u32, atom: u32) -> bool
+    fn is_unfailing(&self, atom: u32, rule: u32) -> bool
         ensures { result ≡ unfailing_at (rules_of B.meaning self.now) (marks_of self.now) atom rule }
     {
-        self.is_in_head(rule, atom) && !self.body_fails(rule)
+        self.is_in_head(atom, rule) && !self.body_fails(rule)
     }
 
     // The first rule with the atom in its head that has no failing literal.
     pub(crate) fn first_unfailing(&self, atom: u32) -> Option<u32>
         ensures { result ≡ first_unfailing (rules_of B.meaning self.now) (marks_of self.now) atom }
     {
-        (0..self.book.rules()).find(|rule| self.is_unfailing(*rule, atom))
+        (0..self.book.rules()).find(|rule| self.is_unfailing(atom, *rule))
     }
 
     // Whether it is a plain rule whose body is true under the answer while no head atom is.
