@@ -100,6 +100,22 @@ fn print_call(rt: &HostRuntime, book: &NumbersBook<'_>, call: Call<'_>) -> anyho
     Ok(())
 }
 
+// What a refusal of a sheet says, in words.
+fn words(error: SheetError) -> &'static str {
+    match error {
+        SheetError::UnknownAtom(_) => "no such atom",
+        SheetError::WrongState => "the sheet is not open, or is open already",
+        SheetError::DuplicateAtom(_) => "an atom stands twice in the list",
+        SheetError::ViolatedRule(_) => "a rule is broken under this answer",
+        SheetError::AlreadyMarked => "it is marked already",
+        SheetError::WrongSide => "this reason is for the other side of the answer",
+        SheetError::UnsuitableRule(_) => "this rule gives no such reason",
+        SheetError::MissingGround(_, _) => "a ground has no reason yet, or speaks against it",
+        SheetError::NoEntry => "it has no entry",
+        SheetError::TooShort => "there is too little room",
+    }
+}
+
 fn print_answer(rt: &HostRuntime, answer: Result<Done, SheetError>) -> anyhow::Result<()> {
     match answer {
         Ok(Done::Opened) => println!(rt; ": open")?,
@@ -109,7 +125,8 @@ fn print_answer(rt: &HostRuntime, answer: Result<Done, SheetError>) -> anyhow::R
         Err(error) => {
             let refusal = Refusal::from(error);
             let (number, first, second) = (refusal.number, refusal.first, refusal.second);
-            println!(rt; ": refusal {number} sheet {first} {second}")?;
+            let words = words(error);
+            println!(rt; ": refusal {number} sheet {first} {second}, {words}")?;
         }
     }
     Ok(())
@@ -128,20 +145,29 @@ fn print_entry(rt: &HostRuntime, book: &NumbersBook<'_>, entry: Proposal) -> any
     Ok(())
 }
 
+// Whether the atom is marked false without an entry.
+fn is_assumed(sheet: &Sheet<'_, NumbersBook<'_>>, atoms: u32, atom: u32) -> bool {
+    let entered = (0..atoms)
+        .filter_map(|at| sheet.entry(at))
+        .any(|entry| entry.atom == atom);
+    sheet.mark(atom) == Some(Mark::False) && !entered
+}
+
 // The assumed atoms, the entries in their order, and the atoms that have no mark.
 fn print_sheet(
     rt: &HostRuntime,
     book: &NumbersBook<'_>,
     sheet: &Sheet<'_, NumbersBook<'_>>,
 ) -> anyhow::Result<()> {
-    for literal in ANSWER.iter().filter(|literal| **literal < 0) {
-        let atom = name(book, literal.unsigned_abs());
+    let atoms = book.atoms();
+    for atom in (1..=atoms).filter(|atom| is_assumed(sheet, atoms, *atom)) {
+        let atom = name(book, atom);
         println!(rt; "{atom} is false: assumed")?;
     }
-    for entry in (0..book.atoms()).filter_map(|at| sheet.entry(at)) {
+    for entry in (0..atoms).filter_map(|at| sheet.entry(at)) {
         print_entry(rt, book, entry)?;
     }
-    for atom in (1..=book.atoms()).filter(|atom| sheet.mark(*atom) == Some(Mark::Unmarked)) {
+    for atom in (1..=atoms).filter(|atom| sheet.mark(*atom) == Some(Mark::Unmarked)) {
         let atom = name(book, atom);
         println!(rt; "{atom} is left open")?;
     }
