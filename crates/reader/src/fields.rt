@@ -71,8 +71,9 @@ impl Cursor<'_> {
         Ok(*byte)
     }
 
-    // A number, and the byte after it.
+    // A number, and the byte after it. Inlined, since a text is read number by number: a call for each made short lines slower.
     #[tactic(auto, using(crate::proofs::Scans::number_steps))]
+    #[inline(always)]
     pub(crate) fn field(&mut self, after: After) -> Result<i32, TextError>
         ensures reads { Reads (field_to self.old.text.now) (field_at after) self.old result self.new }
         ensures forward { IfOk result (λ _. self.old.at < self.new.at) }

@@ -59,7 +59,9 @@ impl<'a> Cursor<'a> {
         }
     }
 
+    // Not inlined, so that a line that is passed over does not pay for the numbers of a rule.
     #[tactic(auto, unfolding(crate::specs::Lines::rule_at))]
+    #[inline(never)]
     fn rule(&mut self) -> Result<Statement<'a>, TextError>
         ensures { Reads said_to rule_at self.old result self.new }
     {

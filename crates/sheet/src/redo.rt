@@ -1,8 +1,9 @@
 // The entries below a struck one, tested again and moved up.
-ghost use Rattle.std.specs.Prelude.{◌≡◌, ℕ, ◌+◌, ◌<◌, ◌≤◌, map, length, take, drop};
+ghost use Rattle.std.specs.Prelude.{◌≡◌, ℕ, ◌+◌, ◌<◌, ◌≤◌, map, length, take, drop, is_ok};
 ghost use Rattle.sheet.specs.Enter.{enter_all};
 ghost use Rattle.sheet.specs.Marks.{marked_all, assuming};
 ghost use Rattle.sheet.specs.Strike.{place_of};
+ghost use Rattle.sheet.specs.Verdicts.{verdict};
 ghost use Rattle.sheet.specs.Kept.{flagged, marking, unmarked_in, with_marks, mark_assumed, open_with};
 
 use crate::flags::put_assumed;
@@ -36,6 +37,18 @@ fn mark_again(marks: &mut [Mark], assumed: &[bool], entries: &[Proposal])
     put_marks(marks, entries);
 }
 
+// Whether an entry is allowed by the marks that stand now.
+fn allows<'a, B: Book>(book: &'a B, answer: &'a [bool], marks: &'a [Mark], entry: Proposal) -> bool
+    ensures { result ≡ is_ok (verdict (B.meaning book.now) (flagged answer.now) (marking marks.now) entry) }
+{
+    let judge = Judge {
+        book,
+        answer,
+        marks,
+    };
+    judge.allows(entry)
+}
+
 // The entry at a place goes, and each later one that is still allowed is kept. Answers how many stand then.
 // It is lent the lists and not the sheet, whose facts do not hold in between.
 pub(crate) fn redo<B: Book>(
@@ -60,12 +73,7 @@ pub(crate) fn redo<B: Book>(
     let mut to = from;
     for at in from + 1..entries.len() {
         let entry = entries[at];
-        let judge = Judge {
-            book,
-            answer,
-            marks,
-        };
-        if judge.allows(entry) {
+        if allows(book, answer, marks, entry) {
             put_mark(marks, entry);
             entries[to] = entry;
             to += 1;
